@@ -38,7 +38,7 @@ in32 p a q c t h k = record {
 pub combine_in32 : (p a q c : ℤ) (b d : ℕ) → unsigned_abs a ≤ b → unsigned_abs c ≤ d → unsigned_abs p * b + unsigned_abs q * d < 2 ^ 31 → CombinesIn32 p a q c
 combine_in32 p a q c b d h k within = in32 p a q c (unsigned_abs p * b + unsigned_abs q * d) (combines_below p a q c b d h k) within
 
-in_range_of : (z : ℤ) (t : ℕ) → unsigned_abs z ≤ t → t < 2 ^ 31 → InRange z
+pub in_range_of : (z : ℤ) (t : ℕ) → unsigned_abs z ≤ t → t < 2 ^ 31 → InRange z
 in_range_of z t h k = omega arith
 
 combines_in_range : (p a q c : ℤ) (t : ℕ) → CombinesBelow p a q c t → t < 2 ^ 31 → CombinesInRange p a q c

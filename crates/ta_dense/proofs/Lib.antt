@@ -11,17 +11,17 @@ pub mod SlackRows
 pub mod SlackDictionary
 pub mod PushedRows
 pub mod ExtendFacts
-mod Dot
+pub mod Dot
 mod CellSteps
-mod Unique
+pub mod Unique
 mod RowSteps
 mod PivotParts
 mod EnterSoFar
 mod LeastSoFar
 mod FillSteps
-mod Primitive
-mod Bounded
-mod NarrowFacts
+pub mod Primitive
+pub mod Bounded
+pub mod NarrowFacts
 mod RowCellFacts
 mod SharedFacts
 mod Mapped

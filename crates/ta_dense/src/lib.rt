@@ -43,5 +43,8 @@ pub use laws::{
     equal_rows_never_leave, pivots_keep_dictionaries, rows_are_unique, slacks_are_a_dictionary,
 };
 pub use narrow::NarrowDictionary;
+pub use narrow_rows::{NarrowRow, least_bound, merge_narrow, merges, reduce_narrow, turn_narrow};
+pub use row_cells::RowCells;
 pub use rows::factors;
+pub use small::padded_narrow;
 pub use small_pivot::NarrowPivot;

@@ -24,18 +24,18 @@ use std::alloc::{AllocError, Global};
 /// as it was new: a hint, of which nothing depends, that two rows may be equal. `met` is the cell of
 /// the column that was tested last, which spares a merge to seek it again.
 #[derive(Drop)]
-pub(crate) struct NarrowRow {
-    pub(crate) basic: u32,
-    pub(crate) denominator: i32,
-    pub(crate) constant: i32,
-    pub(crate) cells: RowCells,
-    pub(crate) bound: u32,
-    pub(crate) sum: u32,
-    pub(crate) met: i32,
+pub struct NarrowRow {
+    pub basic: u32,
+    pub denominator: i32,
+    pub constant: i32,
+    pub cells: RowCells,
+    pub bound: u32,
+    pub sum: u32,
+    pub met: i32,
 }
 
-// The greatest absolute value of the row's numbers.
-pub(crate) fn least_bound(row: &NarrowRow) -> u32
+/// The greatest absolute value of the row's numbers.
+pub fn least_bound(row: &NarrowRow) -> u32
     requires { IsNarrow (length row.now.cells) row.now }
     ensures bound { IsBound result (narrow_view row.now) }
     ensures fits { result < 2 ^ 31 }
@@ -70,9 +70,9 @@ fn is_small(c: u32, first: u32, a: u32, second: u32) -> bool
     c as u64 * first as u64 + a as u64 * (second as u64) < 1 << 31
 }
 
-// Whether bounds show that the row can be merged in 32 bits. Where the row's bound doesn't, it is
-// taken anew.
-fn merges(chosen: &NarrowRow, column: usize, row: &mut NarrowRow) -> bool
+/// Whether bounds show that the row can be merged in 32 bits. Where the row's bound doesn't, it is
+/// taken anew.
+pub fn merges(chosen: &NarrowRow, column: usize, row: &mut NarrowRow) -> bool
     requires chosen { IsNarrow (length chosen.now.cells) chosen.now }
     requires row { IsNarrow (length chosen.now.cells) row.old }
     requires column { column < length chosen.now.cells }
@@ -161,8 +161,8 @@ fn divide_narrow_row(alloc: Global, row: &mut NarrowRow, divisor: i32) -> Result
     Ok(())
 }
 
-// Divides the row by the greatest common divisor of its numbers.
-fn reduce_narrow(alloc: Global, row: &mut NarrowRow) -> Result<(), AllocError>
+/// Divides the row by the greatest common divisor of its numbers.
+pub fn reduce_narrow(alloc: Global, row: &mut NarrowRow) -> Result<(), AllocError>
     requires { IsNarrow (length row.old.cells) row.old }
     ensures value { IfOk result (λ done. narrow_view row.new ≡ reduced (narrow_view row.old)) }
     ensures bound { IfOk result (λ done. row.new.bound ≡ row.old.bound) }
@@ -191,8 +191,8 @@ fn narrow_factors(c: i32, a: i32) -> (i32, i32)
     (c / divisor, a / divisor)
 }
 
-// Takes the entering variable out of a row.
-fn merge_narrow(
+/// Takes the entering variable out of a row.
+pub fn merge_narrow(
     alloc: Global,
     chosen: &NarrowRow,
     column: usize,
@@ -236,8 +236,8 @@ pub(crate) fn merge_all_narrow(
     Ok(())
 }
 
-// Solves the row for the entering variable.
-fn turn_narrow(
+/// Solves the row for the entering variable.
+pub fn turn_narrow(
     alloc: Global,
     row: &mut NarrowRow,
     column: usize,

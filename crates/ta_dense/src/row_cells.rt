@@ -22,7 +22,7 @@ use std::sync::Arc;
 
 /// The cells of a row. So many of them as are not stored are 0.
 #[derive(Drop)]
-pub(crate) struct RowCells {
+pub struct RowCells {
     stored: Arc<Vec<i32>>,
     count: usize,
 }
@@ -105,7 +105,7 @@ fn combine_longer(p: i32, q: i32, cells: &mut [i32], chosen: &[i32])
 
 impl RowCells {
     /// These cells, all of them stored.
-    pub(crate) fn of(alloc: Global, cells: Vec<i32>) -> Result<RowCells, AllocError>
+    pub fn of(alloc: Global, cells: Vec<i32>) -> Result<RowCells, AllocError>
         ensures { IfOk result (λ r. r ≡ cells.items) }
     {
         let count = cells.len();
@@ -114,7 +114,7 @@ impl RowCells {
     }
 
     /// The same cells for another row, with zeros up to a number of columns. It copies none.
-    pub(crate) fn padded(&self, columns: usize) -> Result<RowCells, AllocError>
+    pub fn padded(&self, columns: usize) -> Result<RowCells, AllocError>
         requires { length self.now ≤ columns }
         ensures { IfOk result (λ r. r ≡ zeros_behind self.now columns) }
     {
@@ -126,7 +126,7 @@ impl RowCells {
     }
 
     /// The same cells for another row. It copies none.
-    pub(crate) fn shared(&self) -> Result<RowCells, AllocError>
+    pub fn shared(&self) -> Result<RowCells, AllocError>
         ensures { IfOk result (λ r. r ≡ self.now) }
     {
         let stored = Arc::try_clone(&self.stored)?;
@@ -137,7 +137,7 @@ impl RowCells {
     }
 
     /// About how many bytes the stored cells take, if no other has them.
-    pub(crate) fn own_bytes(&self) -> usize {
+    pub fn own_bytes(&self) -> usize {
         if Arc::strong_count(&self.stored) > 1 {
             0
         } else {
@@ -146,14 +146,14 @@ impl RowCells {
     }
 
     /// The cell of a column.
-    pub(crate) fn at(&self, column: usize) -> i32
+    pub fn at(&self, column: usize) -> i32
         ensures { result ≡ get_or self.now column (pos 0) }
     {
         cell_at(&self.stored, column)
     }
 
     /// Whether two rows have the same cells.
-    pub(crate) fn is_same(&self, other: &RowCells) -> bool
+    pub fn is_same(&self, other: &RowCells) -> bool
         ensures { IsTrue result → self.now ≡ other.now }
     {
         if self.count != other.count {
@@ -163,7 +163,7 @@ impl RowCells {
     }
 
     /// The greatest of a number and the absolute values of the cells.
-    pub(crate) fn greatest(&self, start: u32) -> u32
+    pub fn greatest(&self, start: u32) -> u32
         requires start { start < 2 ^ 31 }
         requires cells { AreSmall self.now }
         ensures above { start ≤ result }
@@ -175,14 +175,14 @@ impl RowCells {
     }
 
     /// The greatest common divisor of a natural number and the cells.
-    pub(crate) fn divisor(&self, start: u32) -> u32
+    pub fn divisor(&self, start: u32) -> u32
         ensures { result ≡ gcd_with start self.now }
     {
         gcd_of_narrow(start, &self.stored)
     }
 
     /// `p` times the cells minus `q` times the chosen ones, place by place.
-    pub(crate) fn combine(
+    pub fn combine(
         &mut self,
         alloc: Global,
         p: i32,
@@ -202,12 +202,7 @@ impl RowCells {
     }
 
     /// Writes a number into the cell of a column.
-    pub(crate) fn write(
-        &mut self,
-        alloc: Global,
-        column: usize,
-        number: i32,
-    ) -> Result<(), AllocError>
+    pub fn write(&mut self, alloc: Global, column: usize, number: i32) -> Result<(), AllocError>
         requires { column < length self.old }
         ensures { IfOk result (λ done. self.new ≡ set self.old column number) }
     {
@@ -220,7 +215,7 @@ impl RowCells {
     }
 
     /// Divides each cell.
-    pub(crate) fn divide(&mut self, alloc: Global, divisor: i32) -> Result<(), AllocError>
+    pub fn divide(&mut self, alloc: Global, divisor: i32) -> Result<(), AllocError>
         requires { pos 0 <ℤ divisor }
         ensures { IfOk result (λ done. self.new ≡ map (λ z. int_div z divisor) self.old) }
     {
@@ -233,7 +228,7 @@ impl RowCells {
     }
 
     /// Negates each cell.
-    pub(crate) fn negate(&mut self, alloc: Global) -> Result<(), AllocError>
+    pub fn negate(&mut self, alloc: Global) -> Result<(), AllocError>
         requires { AreSmall self.old }
         ensures { IfOk result (λ done. self.new ≡ map neg_ℤ self.old) }
     {
@@ -246,7 +241,7 @@ impl RowCells {
     }
 
     /// The cells in 128 bits.
-    pub(crate) fn widened(&self, alloc: Global) -> Result<Vec<i128>, AllocError>
+    pub fn widened(&self, alloc: Global) -> Result<Vec<i128>, AllocError>
         ensures { IfOk result (λ v. v.items ≡ self.now) }
     {
         let mut wide = Vec::with_capacity(alloc, self.count)?;

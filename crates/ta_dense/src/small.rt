@@ -92,12 +92,8 @@ fn widened_all(
     Ok(rows)
 }
 
-// The row for a variable, with zeros up to a number of columns. It shares the row's cells.
-pub(crate) fn padded_narrow(
-    row: &NarrowRow,
-    basic: u32,
-    columns: usize,
-) -> Result<NarrowRow, AllocError>
+/// The row for a variable, with zeros up to a number of columns. It shares the row's cells.
+pub fn padded_narrow(row: &NarrowRow, basic: u32, columns: usize) -> Result<NarrowRow, AllocError>
     requires narrow { IsNarrow (length row.now.cells) row.now }
     requires columns { length row.now.cells ≤ columns }
     ensures value { IfOk result (λ r. narrow_view r ≡ padded basic columns (narrow_view row.now)) }

@@ -50,7 +50,7 @@ pub use Rattle.ta_linear.specs.Values.{RowHolds, Solves, terms_value, value_of}
 pub use Rattle.ta_linear.specs.declared.row.Row.{Row}
 pub use Rattle.ta_linear.specs.declared.row.System.{System}
 pub use Rattle.ta_simplex.specs.Answers.{HasEnd, RunEnds, RunOverflows}
-pub use Rattle.ta_simplex.specs.Branch.{AreStanding, IsBranch, LastFits, SharesRows, StandsOn}
+pub use Rattle.ta_simplex.specs.FullBranch.{AreStanding, IsFullBranch, LastFits, SharesFullRows, StandsOn}
 pub use Rattle.ta_simplex.specs.Follows.{AddsPivots, BeginsSystem, Follows, MakesPivot, tableau_after}
 pub use Rattle.ta_simplex.specs.Inside.Slots.{AreNatural, FillSlots, ListsSlots, put, slot}
 pub use Rattle.ta_simplex.specs.Laws.{EndsAreDetermined, MultipliersAreFew}

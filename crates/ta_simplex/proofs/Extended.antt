@@ -64,7 +64,7 @@ row_total n e t rows =
     let k = length-append (map (widened n e) t.rows) rows in
     omega arith
 
-old_column : (n e : ℕ) (t : Tableau) (rows : List TableauRow) (j : ℕ) → j < length t.non_basic
+pub old_column : (n e : ℕ) (t : Tableau) (rows : List TableauRow) (j : ℕ) → j < length t.non_basic
     → non_basic_of (with_more n e t rows) j ≡ raised n e (non_basic_of t j)
 old_column n e t rows j h =
     let l = length-map t.non_basic (raised n e) in

@@ -19,7 +19,7 @@ mod Extended
 mod Prefixes
 mod FollowLemmas
 mod RunSteps
-mod BranchLemmas
+mod FullBranchLemmas
 pub mod RunEndings
 pub mod SystemEnds
 mod DeterminedSteps
@@ -27,3 +27,7 @@ mod DeterminedMultipliers
 mod DeterminedValues
 mod DeterminedTableau
 mod Common
+mod RevisedGrowth
+mod RevisedSteps
+mod RevisedSlots
+mod RevisedBranchLemmas

@@ -131,7 +131,7 @@ basic_carried columns ks zero rows i = refl
 basic_carried columns ks (suc j) rows i = basic_map (kept_at ks j).column (chosen_row columns (kept_at ks j)) (carried columns ks j rows) i
     ∙ basic_carried columns ks j rows i
 
-new_carried : (s l : System) (ks : List KeptPivot) (j : ℕ) → AreNewRows (l.unknowns + length s.rows) (carried l.unknowns ks j (added_rows s l))
+pub new_carried : (s l : System) (ks : List KeptPivot) (j : ℕ) → AreNewRows (l.unknowns + length s.rows) (carried l.unknowns ks j (added_rows s l))
 new_carried s l ks j i h =
     let low = l.unknowns + length s.rows in
     let c = length-carried l.unknowns j ks (added_rows s l) in
@@ -178,10 +178,10 @@ made_more s l b ks count made upto within stay j h =
     (λ i below inside. subst (λ (c : ℕ). MergesInRange k.column (chosen_row c k) (get_or rows i no_row)) (sym sum) (stay j h i (omega arith) inside)))
 
 -- the extended tableau and its new rows, where the counts are those of a shorter system
-new_rows_are : (s l : System) (t : Tableau) → length t.rows ≡ length s.rows → new_rows t l ≡ added_rows s l
+pub new_rows_are : (s l : System) (t : Tableau) → length t.rows ≡ length s.rows → new_rows t l ≡ added_rows s l
 new_rows_are s l t h = ap (λ (m : ℕ). slack_rows l.unknowns (l.unknowns + m) (drop m l.rows)) h
 
-extended_is : (s l : System) (ks : List KeptPivot) (t : Tableau) → length t.non_basic ≡ s.unknowns → length t.rows ≡ length s.rows →
+pub extended_is : (s l : System) (ks : List KeptPivot) (t : Tableau) → length t.non_basic ≡ s.unknowns → length t.rows ≡ length s.rows →
     extended t ks l ≡ with_more s.unknowns (added s l) t (carried l.unknowns ks (length ks) (added_rows s l))
 extended_is s l ks t columns rows =
     ap (λ (n : ℕ). with_more n (l.unknowns - n) t (carried l.unknowns ks (length ks) (new_rows t l))) columns

@@ -4,6 +4,8 @@ pub mod Stops
 pub mod Refuted
 pub mod Vertex
 pub mod Ends
+pub mod FullBranch
+pub mod RevisedRuns
 pub mod Branch
 pub mod Laws
 pub mod Answers

@@ -10,7 +10,8 @@
 //! variables. The rule leaves no choice, so values, multipliers and the number of pivots are the
 //! same on every machine (`ends_are_determined`).
 //!
-//! Along a branch of a tree a child goes on from its parent's last dictionary (branch.rt).
+//! Along a branch of a tree a child goes on from its parent's last dictionary (branch.rt), which is
+//! a revised one, with the rows of the unknowns alone, as long as bounds show that this suffices.
 //!
 //! Source: Bland's rule, in its form for feasibility.
 #![tactic(auto)]
@@ -21,20 +22,27 @@ mod branch;
 mod effort;
 mod fault;
 mod fraction;
+mod full_branch;
 mod laws;
 mod multipliers;
 mod pivots;
+mod revised_branch;
+mod revised_ends;
+mod revised_run;
 mod solving;
 mod vertex;
 
-pub use branch::{Branch, Standing};
+pub use branch::Branch;
 pub use effort::Effort;
 pub use fault::SolveFault;
 pub use fraction::Fraction;
+pub use full_branch::{FullBranch, Standing};
 pub use laws::{
     ends_are_determined, multipliers_are_few, prefixes_go_first, runs_are_determined,
     runs_have_ends, scaled_vertices_solve, whole_vertices_solve,
 };
+pub use revised_branch::{RevisedBranch, RevisedStanding};
+pub use revised_run::Ran;
 pub use solving::{Ended, resume, solve};
 
 /// What a system came to.

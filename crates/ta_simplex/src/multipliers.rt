@@ -66,7 +66,7 @@ fn slack_multipliers<D: Dictionary>(
 }
 
 // Puts a number at the row of a slack.
-fn put_slack(multipliers: &mut [i128], unknowns: u32, variable: u32, multiplier: i128)
+pub(crate) fn put_slack(multipliers: &mut [i128], unknowns: u32, variable: u32, multiplier: i128)
     requires { variable < unknowns + length multipliers.old }
     ensures { multipliers.new ≡ put unknowns multipliers.old variable multiplier }
 {
@@ -76,7 +76,7 @@ fn put_slack(multipliers: &mut [i128], unknowns: u32, variable: u32, multiplier:
 }
 
 // The multipliers that are not 0, each with its row.
-fn terms_of(alloc: Global, multipliers: &[i128]) -> Result<Vec<(u32, i128)>, AllocError>
+pub(crate) fn terms_of(alloc: Global, multipliers: &[i128]) -> Result<Vec<(u32, i128)>, AllocError>
     requires room { length multipliers.now < 2 ^ 32 }
     requires natural { AreNatural multipliers.now }
     ensures { IfOk result (λ ts. ListsSlots multipliers.now (length multipliers.now) ts.items) }

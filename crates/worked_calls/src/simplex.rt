@@ -69,3 +69,25 @@ fn counts(rt: HostRuntime) {
     };
     expect(&rt, counted(&rt, rt.alloc()) == effort, "counts");
 }
+
+// Whether the end is a vertex whose first value is a half.
+fn is_half(end: &Result<End, SolveFault>) -> bool {
+    match end {
+        Ok(End::Vertex(values)) => match values.as_slice().first() {
+            Some(value) => value.top == 1 && value.bottom == 2,
+            None => false,
+        },
+        _ => false,
+    }
+}
+
+// A branch, which takes revised dictionaries, comes to the end to which full ones come.
+#[test]
+fn a_branch_agrees(rt: HostRuntime) {
+    let system = multiple(&rt, rt.alloc(), 2);
+    let mut branch: Branch<NarrowDictionary> = Branch::new(rt.alloc());
+    let revised = branch.solve(rt.alloc(), &system, 0);
+    let full = solve::<DenseDictionary>(rt.alloc(), &system);
+    expect(&rt, is_half(&revised), "revised rows");
+    expect(&rt, is_half(&full), "full rows");
+}

@@ -16,8 +16,9 @@ use ta_scope::ScopedFile;
 use ta_syntax::print_tree;
 use ta_walk::{Gate, WalkEnd, walk, walk_gated};
 
-const FILE: &[u8] =
-    b"automaton first; parameters n; shared; locations A initial, B; processes n; resilience n >= 1; rule r: A -> B; pattern reached { event done: B >= 1; }";
+// Its resilience condition is beyond what revised dictionaries take.
+const GREAT: &[u8] =
+    b"automaton first; parameters n; shared; locations A initial, B; processes n; resilience 100000 * n >= 1; rule r: A -> B; pattern reached { event done: B >= 1; }";
 
 const LEFT: &[u8] =
     b"automaton first; parameters n; shared; locations A initial, B; processes n; resilience n >= 1; rule r: A -> B; pattern left { event stuck: A >= 1; }";
@@ -106,7 +107,7 @@ impl Dictionary for NoRoom {
 
 #[test]
 fn walks_without_room(rt: HostRuntime) {
-    let scoped = read_file(rt.alloc(), FILE, &Limits::narrow()).expect(&rt, "a file");
+    let scoped = read_file(rt.alloc(), GREAT, &Limits::narrow()).expect(&rt, "a file");
     assert!(rt;
         !scoped.file().patterns.as_slice().is_empty() && scoped.file().automaton.is_narrow()
     );

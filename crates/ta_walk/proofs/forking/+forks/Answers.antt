@@ -20,7 +20,9 @@ pub visit_list-visit_on-requires-clause-stands : goal.visit_list-visit_on-requir
 visit_list-visit_on-requires-clause-stands g t c κs within =
     let s = search_of_claim c.args.setting.tree.now in
     let n = c.args.nodes in
-    let comes : ComesTo s c.in-Some.start = search rules in
+    let few : length c.args.starts.items < 2 = search rules in
+    let one = last_alone c.args.starts.items c.pop.new.self.items c.in-Some.start c.in-Some.ensures.items few in
+    let comes = (subst (AllByRecursion (ComesTo s)) one c.requires.come).0 in
     subst (HasFewLeft s n) (sym c.frontier_at-at.ensures.cursor)
     (root_stands s c.in-Some.start c.new-cursor.result n comes c.new-cursor.ensures c.requires.limit)
 

@@ -1,0 +1,18 @@
+-- lemmas for the crates above
+pub mod Units
+pub mod PivotsKeep
+pub mod ModestBounds
+pub mod SlackValues
+pub mod SlackTrue
+pub mod RowsRevised
+pub mod NegativeLeaves
+pub mod UnitRow
+mod UnknownRowSteps
+mod EnterSoFar
+mod GrownRows
+mod PivotedRows
+mod SlackFacts
+pub mod ScaleFacts
+pub mod RowValues
+pub mod RevisedFacts
+pub mod RevisedLaws

@@ -1,0 +1,53 @@
+use Rattle.std.proofs.Common.{◌≡◌, arith, ap, sym, ◌∙◌, length, get_or, subst}
+use Rattle.std.proofs.lemmas.List.{length-map, map-set, get_or-map}
+use Rattle.std.proofs.lemmas.List.Elements.{All-set}
+use Rattle.ta_base.proofs.Lists.{rest_more}
+use Rattle.ta_dense.specs.Tableau.{TableauRow, no_row}
+use Rattle.ta_dense.specs.Narrow.{narrow_view}
+use Rattle.ta_revised.specs.UnknownRows.{IsAfter, IsUnknownRow, unknown_row, unknown_rows}
+use Rattle.ta_revised.proofs.UnknownRowSteps.{after_more}
+use Rattle.ta_revised.proofs.unknown_rows.merge_rows.Goals as goal
+
+pub merge_row-requires-clause-row : goal.merge_row-requires-clause-row
+merge_row-requires-clause-row c = c.loop-at.invariant.rows c.loop-at.at c.index-rows-at.result (omega arith)
+
+pub merge_row-requires-clause-within : goal.merge_row-requires-clause-within
+merge_row-requires-clause-within c =
+    let at = c.loop-at.at in
+    let x = c.index-rows-at.result in
+    rw (c.loop-at.invariant.rest at x (omega arith)) (c.requires.within at x (omega arith))
+
+pub loop-at-preserved : goal.loop-at-preserved
+loop-at-preserved c =
+    let inv = c.loop-at.invariant in
+    let n = length c.args.chosen.now.cells in
+    let column = c.args.column in
+    let chosen = narrow_view c.args.chosen.now in
+    let old = unknown_rows n c.args.rows.now in
+    let at = c.loop-at.at in
+    let x = c.index-rows-at.result in
+    let new = c.merge_row.new.row in
+    let rows = c.loop-at.rows in
+    let l1 = length-map c.loop-at.rows (unknown_row (length c.args.chosen.now.cells)) in
+    let read : unknown_row (length c.args.chosen.now.cells) (get_or c.loop-at.rows c.loop-at.at c.index-rows-at.result) ≡
+    get_or (unknown_rows (length c.args.chosen.now.cells) c.args.rows.now) c.loop-at.at no_row =
+    ap (unknown_row n) (inv.rest at x (omega arith)) ∙ sym (get_or-map (unknown_row n) c.args.rows.now at x no_row (omega arith)) in
+    let P : TableauRow → Type 0 = λ r. IsAfter (length c.args.chosen.now.cells) c.args.column (narrow_view c.args.chosen.now) r
+    (unknown_row (length c.args.chosen.now.cells) c.merge_row.new.row) in
+    let after = subst P read c.in_ok-merge_row.ensures.after in
+    record {
+      done = rw (map-set (unknown_row n) rows at new) (after_more n column chosen old (unknown_rows n rows) at (unknown_row n new)
+          (omega arith) after inv.done);
+      rest = λ k d below. rest_more d c.args.rows.now rows at new (λ j low. inv.rest j d low) k below;
+      rows = All-set (IsUnknownRow n) rows at new c.in_ok-merge_row.ensures.row inv.rows;
+    }
+
+pub returns-clause-after : goal.returns-clause-after
+returns-clause-after c =
+    let n = length c.args.chosen.now.cells in
+    let l1 = length-map c.loop-at.rows (unknown_row n) in
+    let l2 = length-map c.args.rows.now (unknown_row n) in
+    record {
+      count = omega arith;
+      each = λ u h. c.loop-at.invariant.done u (omega arith);
+    }

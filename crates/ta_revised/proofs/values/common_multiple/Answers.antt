@@ -1,0 +1,25 @@
+use Rattle.std.proofs.Common.{arith, ℕ, sym, subst}
+use Rattle.std.proofs.Math.Nat.{one-dvd, mul-pos}
+use Rattle.std.proofs.lemmas.Nat.Gcd.{le_of_dvd}
+use Rattle.std.specs.Int.{◌∣◌}
+use Rattle.ta_revised.proofs.ScaleFacts.{divisor_above, divides_multiple, quotient_above}
+use Rattle.ta_revised.proofs.values.common_multiple.Goals as goal
+
+pub returns-then-denominator-eq1-clause-second : goal.returns-then-denominator-eq1-clause-second
+returns-then-denominator-eq1-clause-second c = subst (λ (m : ℕ). m ∣ c.args.scale) (sym c.if-denominator-eq1.true) (one-dvd c.args.scale)
+
+pub overflow_cast-divisor : goal.overflow_cast-divisor
+overflow_cast-divisor c =
+    let divides = c.gcd_natural-divisor.ensures.value in
+    omega (arith, le_of_dvd c.requires.scale divides.0, c.requires.few)
+
+pub nonzero_div-multiple : goal.nonzero_div-multiple
+nonzero_div-multiple c = divisor_above _ c.args.scale c.requires.scale c.gcd_natural-divisor.ensures.value.0
+
+pub returns-clause-first : goal.returns-clause-first
+returns-clause-first c =
+    let divides = c.gcd_natural-divisor.ensures.value in
+    divides_multiple c.args.scale c.args.denominator _ divides.0 divides.1
+
+pub returns-clause-positive : goal.returns-clause-positive
+returns-clause-positive c = mul-pos (quotient_above _ c.args.scale c.requires.scale c.gcd_natural-divisor.ensures.value.0) c.requires.positive

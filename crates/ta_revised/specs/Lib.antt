@@ -1,0 +1,9 @@
+pub mod UnknownRows
+pub mod Revised
+pub mod Scale
+pub mod Slack
+pub mod Negative
+pub mod Chosen
+pub mod Modest
+pub mod Valid
+pub mod Laws

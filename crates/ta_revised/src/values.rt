@@ -1,0 +1,168 @@
+//! A common scale of the unknowns' rows, the unknowns' values over it, and the variable that leaves.
+#![tactic(auto)]
+
+ghost use Rattle.std.specs.Prelude.{◌≡◌, ◌<◌, ◌≤◌, ◌^◌, ◌<ℤ◌, ◌*ℤ◌, ℕ, pos, length, get_or, slice_get, unsigned_abs, IfOk, IfSome, IfNone, IsSomeAnd};
+ghost use Rattle.std.specs.Int.{◌∣◌};
+ghost use Rattle.ta_linear.specs.Terms.{IsNormal};
+ghost use Rattle.ta_dense.specs.Slack.{variables};
+ghost use Rattle.ta_dense.specs.Tableau.{no_row};
+ghost use Rattle.ta_revised.specs.Modest.{AreModestRows, IsModestRow};
+ghost use Rattle.ta_revised.specs.Negative.{IsLeastNegative, NoneIsNegative, RowsHold, UnknownsHold, row_value};
+ghost use Rattle.ta_revised.specs.Scale.{AreValues, IsScale};
+ghost use Rattle.ta_revised.specs.UnknownRows.{AreUnknownRows, IsUnknownRow, unknown_row, unknown_rows};
+
+use crate::unknown_rows::UnknownRow;
+use std::alloc::{AllocError, Global};
+use ta_linear::{Row, System, gcd_natural};
+
+/// The greatest scale.
+const MOST: u32 = 1 << 15;
+
+// The least common multiple of two numbers, if it isn't too great.
+fn common_multiple(scale: u32, denominator: u32) -> Option<u32>
+    requires scale { 0 < scale }
+    requires few { scale ≤ 2 ^ 15 }
+    requires positive { 0 < denominator }
+    requires small { denominator < 2 ^ 31 }
+    ensures first { IfSome result (λ m. scale ∣ m) }
+    ensures second { IfSome result (λ m. denominator ∣ m) }
+    ensures positive { IfSome result (λ m. 0 < m) }
+    ensures few { IfSome result (λ m. m ≤ 2 ^ 15) }
+{
+    if denominator == 1 {
+        return Some(scale);
+    }
+    let divisor = gcd_natural(scale as u128, denominator as u128) as u32;
+    let multiple = (scale / divisor) as u64 * denominator as u64;
+    if multiple > MOST as u64 {
+        return None;
+    }
+    Some(multiple as u32)
+}
+
+// The denominator of the row.
+fn denominator_of(row: &UnknownRow, columns: usize) -> u32
+    requires { IsUnknownRow columns row.now }
+    ensures value { result ≡ unsigned_abs (unknown_row columns row.now).denominator }
+    ensures positive { 0 < result }
+    ensures small { result < 2 ^ 31 }
+{
+    let _columns = columns;
+    match row {
+        UnknownRow::Column { .. } => 1,
+        UnknownRow::Basic(basic) => basic.denominator.unsigned_abs(),
+    }
+}
+
+/// A common multiple of the rows' denominators, if it isn't too great.
+pub(crate) fn scale_of(rows: &[UnknownRow], columns: usize) -> Option<u32>
+    requires { AreUnknownRows columns rows.now }
+    ensures { IfSome result (λ scale. IsScale scale (unknown_rows columns rows.now)) }
+{
+    let mut scale = 1;
+    for row in rows {
+        scale = common_multiple(scale, denominator_of(row, columns))?;
+    }
+    Some(scale)
+}
+
+// The value of a row's unknown, times the scale.
+fn value_of(row: &UnknownRow, columns: usize, scale: u32) -> i64
+    requires row { IsUnknownRow columns row.now }
+    requires few { scale ≤ 2 ^ 15 }
+    requires multiple { unsigned_abs (unknown_row columns row.now).denominator ∣ scale }
+    ensures value { (unknown_row columns row.now).denominator *ℤ result ≡ pos scale *ℤ (unknown_row columns row.now).constant }
+    ensures small { unsigned_abs result ≤ 2 ^ 46 }
+{
+    let _columns = columns;
+    match row {
+        UnknownRow::Column { .. } => 0,
+        UnknownRow::Basic(basic) => {
+            (scale / basic.denominator.unsigned_abs()) as i64 * basic.constant as i64
+        }
+    }
+}
+
+/// The value of each unknown, times the scale.
+pub(crate) fn values_of(
+    alloc: Global,
+    rows: &[UnknownRow],
+    columns: usize,
+    scale: u32,
+) -> Result<Vec<i64>, AllocError>
+    requires rows { AreUnknownRows columns rows.now }
+    requires scale { IsScale scale (unknown_rows columns rows.now) }
+    ensures { IfOk result (λ v. AreValues scale (unknown_rows columns rows.now) v.items) }
+{
+    let mut values = Vec::with_capacity(alloc, rows.len())?;
+    for row in rows {
+        values.push(value_of(row, columns, scale))?;
+    }
+    Ok(values)
+}
+
+// The scale times the row's value.
+fn row_value_of(row: &Row, values: &[i64], scale: u32) -> i64
+    requires row { IsNormal 0 (length values.now) row.now.form.terms }
+    requires modest { IsModestRow row.now }
+    requires few { scale ≤ 2 ^ 15 }
+    requires small { (u : ℕ) → u < length values.now → unsigned_abs (get_or values.now u (pos 0)) ≤ 2 ^ 46 }
+    ensures { result ≡ row_value scale values.now row.now }
+{
+    let mut value = scale as i64 * row.form.constant as i64;
+    for &(unknown, coefficient) in row.form.terms.as_slice() {
+        value += coefficient as i64 * values[unknown as usize];
+    }
+    value
+}
+
+// The first unknown with a negative value.
+fn negative_unknown(values: &[i64]) -> Option<u32>
+    requires { length values.now < 2 ^ 32 }
+    ensures found { IfSome result (λ v. (v < length values.now) × (get_or values.now v (pos 0) <ℤ pos 0) × UnknownsHold values.now v) }
+    ensures none { IfNone result (UnknownsHold values.now (length values.now)) }
+{
+    for unknown in 0..values.len() {
+        if values[unknown] < 0 {
+            return Some(unknown as u32);
+        }
+    }
+    None
+}
+
+// The first row with a negative value.
+fn negative_row(system: &System, values: &[i64], scale: u32) -> Option<u32>
+    requires room { variables system.now < 2 ^ 32 }
+    requires count { length values.now ≡ system.now.unknowns }
+    requires modest { AreModestRows system.now.rows }
+    requires few { scale ≤ 2 ^ 15 }
+    requires small { (u : ℕ) → u < length values.now → unsigned_abs (get_or values.now u (pos 0)) ≤ 2 ^ 46 }
+    ensures found { IfSome result (λ i. (i < length system.now.rows) × IsSomeAnd (slice_get system.now.rows i) (λ r. row_value scale values.now r <ℤ pos 0)
+        × RowsHold scale values.now system.now.rows i) }
+    ensures none { IfNone result (RowsHold scale values.now system.now.rows (length system.now.rows)) }
+{
+    let rows = system.rows.as_slice();
+    for at in 0..rows.len() {
+        if row_value_of(&rows[at], values, scale) < 0 {
+            return Some(at as u32);
+        }
+    }
+    None
+}
+
+/// The least variable of the system with a negative value.
+pub(crate) fn least_negative(system: &System, values: &[i64], scale: u32) -> Option<u32>
+    requires room { variables system.now < 2 ^ 32 }
+    requires count { length values.now ≡ system.now.unknowns }
+    requires modest { AreModestRows system.now.rows }
+    requires few { scale ≤ 2 ^ 15 }
+    requires small { (u : ℕ) → u < length values.now → unsigned_abs (get_or values.now u (pos 0)) ≤ 2 ^ 46 }
+    ensures found { IfSome result (IsLeastNegative scale system.now values.now) }
+    ensures none { IfNone result (NoneIsNegative scale system.now values.now) }
+{
+    if let Some(unknown) = negative_unknown(values) {
+        return Some(unknown);
+    }
+    let row = negative_row(system, values, scale)?;
+    Some(system.unknowns + row)
+}

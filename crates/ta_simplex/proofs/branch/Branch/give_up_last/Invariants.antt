@@ -1,8 +1,0 @@
-use Rattle.ta_simplex.proofs.Common.{vec_len, SharesRows}
-use Rattle.ta_simplex.proofs.branch.Branch.give_up_last.Given as goal
-
-abbrev pub invariant-loop-self : goal.invariant-loop-self
-invariant-loop-self g l = SharesRows g.D.Dictionary.tableau g.D.Dictionary.pivot_of l.self l.same l.system.rows
-
-abbrev pub decreases-loop-self : goal.decreases-loop-self
-decreases-loop-self g l = vec_len l.self.systems

@@ -1,0 +1,46 @@
+use Rattle.std.proofs.Common.{ℕ, List, drop, sym, ap, ◌∙◌, subst, refl}
+use Rattle.ta_linear.specs.declared.row.Row.{Row}
+use Rattle.ta_revised.specs.Modest.{AreModestRows}
+use Rattle.ta_dense.specs.Tableau.{Tableau}
+use Rattle.ta_simplex.specs.RevisedRuns.{IsUnderWay}
+use Rattle.ta_revised.proofs.RevisedLaws.{revised_laws}
+use Rattle.ta_simplex.proofs.RevisedGrowth.{under_way_first, may_grow, under_way_grown}
+use Rattle.ta_simplex.proofs.RevisedBranchLemmas.{last_revised}
+use Rattle.ta_simplex.proofs.revised_branch.RevisedBranch.first_dictionary.Goals as goal
+
+pub grown-requires-clause-more : goal.grown-requires-clause-more
+grown-requires-clause-more c =
+    let e = sym c.as_slice.ensures.value ∙ c.in-Some.ensures.cases.0 in
+    let last = last_revised c.args.self.now.systems.items c.in-Some.field-0-1.now c.in-Some.last.now c.args.system.now c.requires.fits.0 e
+    c.requires.branch c.requires.fits.1 in
+    (may_grow last.shorter c.args.system.now c.in-Some.last.now.dictionary last.begins last.under_way c.requires.room).more
+
+pub grown-requires-clause-count : goal.grown-requires-clause-count
+grown-requires-clause-count c =
+    let e = sym c.as_slice.ensures.value ∙ c.in-Some.ensures.cases.0 in
+    let last = last_revised c.args.self.now.systems.items c.in-Some.field-0-1.now c.in-Some.last.now c.args.system.now c.requires.fits.0 e
+    c.requires.branch c.requires.fits.1 in
+    (may_grow last.shorter c.args.system.now c.in-Some.last.now.dictionary last.begins last.under_way c.requires.room).count
+
+pub grown-requires-clause-room : goal.grown-requires-clause-room
+grown-requires-clause-room c =
+    let e = sym c.as_slice.ensures.value ∙ c.in-Some.ensures.cases.0 in
+    let last = last_revised c.args.self.now.systems.items c.in-Some.field-0-1.now c.in-Some.last.now c.args.system.now c.requires.fits.0 e
+    c.requires.branch c.requires.fits.1 in
+    (may_grow last.shorter c.args.system.now c.in-Some.last.now.dictionary last.begins last.under_way c.requires.room).room
+
+pub returns-in_ok-first-in-None : goal.returns-in_ok-first-in-None
+returns-in_ok-first-in-None c =
+    let modest = subst (λ (rs : List Row). AreModestRows rs) c.as_slice-in-None.ensures (c.if-not-are_modest.ensures refl) in
+    subst (λ (d : Tableau). IsUnderWay c.args.system.now d) (sym c.in_ok-first-in-None.ensures) (under_way_first revised_laws c.args.system.now modest)
+
+pub returns-in_ok-grown-in-Some : goal.returns-in_ok-grown-in-Some
+returns-in_ok-grown-in-Some c =
+    let e = sym c.as_slice.ensures.value ∙ c.in-Some.ensures.cases.0 in
+    let last = last_revised c.args.self.now.systems.items c.in-Some.field-0-1.now c.in-Some.last.now c.args.system.now c.requires.fits.0 e
+    c.requires.branch c.requires.fits.1 in
+    let new = c.split_at.ensures.back ∙ ap (λ (rs : List Row). drop c.in-Some.last.now.rows rs) c.as_slice-in-Some.ensures
+    ∙ ap (λ (n : ℕ). drop n c.args.system.now.rows) (sym last.count) in
+    let modest = subst (λ (rs : List Row). AreModestRows rs) new (c.if-not-are_modest-2.ensures refl) in
+    subst (λ (d : Tableau). IsUnderWay c.args.system.now d) (sym c.in_ok-grown-in-Some.ensures)
+    (under_way_grown revised_laws last.shorter c.args.system.now c.in-Some.last.now.dictionary last.begins last.under_way modest)
