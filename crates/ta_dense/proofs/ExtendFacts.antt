@@ -3,7 +3,7 @@ use Rattle.ta_dense.proofs.Common.{◌≡◌, ℕ, zero, suc, ◌+◌, ◌-◌, 
 use Rattle.ta_dense.proofs.Common.{inr, sym, ap, ◌∙◌, subst, pos, length-append, length-replicate, map-append, take_more, length-map, length-range_with_len}
 use Rattle.ta_dense.proofs.Common.{range_with_len, get_or_append_left, get_or-append_right, cases_lt, All-append, All-replicate, InRange, AllBelow, IsNormal}
 use Rattle.ta_dense.proofs.Common.{Row, TableauRow, Tableau, merged, no_row, System, IsProper, FirstRefused, slack_rows, row_view, views, AreProper, DenseRow}
-use Rattle.ta_dense.proofs.Common.{raised, widened, new_rows, FirstLeaving, padded, zero_filled, KeptPivot, kept_at, chosen_row, carried, AreKept, StayInRange}
+use Rattle.ta_dense.proofs.Common.{raised, widened, new_rows, FirstLeaving, padded, KeptPivot, kept_at, chosen_row, carried, AreKept, StayInRange}
 use Rattle.ta_dense.proofs.DenseFacts.{terms_at}
 
 pub IsProper-padded : (n basic columns : ℕ) (r : TableauRow) → IsProper n r → n ≤ columns → IsProper columns (padded basic columns r)
@@ -24,11 +24,6 @@ pub padded_widened : (u n basic : ℕ) (r : TableauRow) → length r.cells ≡ u
 padded_widened u n basic r long e =
     let f : u + n - length r.cells ≡ n = omega arith in
     rw (e, f) refl
-
-pub padded_filled : (u n : ℕ) (r : TableauRow) → length r.cells ≡ u → padded r.basic (u + n) r ≡ zero_filled n r
-padded_filled u n r long =
-    let f : u + n - length r.cells ≡ n = omega arith in
-    rw f refl
 
 -- one more row
 pub map_take_more : {A : Type 0} (view : A → TableauRow) (f : TableauRow → TableauRow) (xs : List A) (i : ℕ) (x d : A) (y : TableauRow) → i < length xs

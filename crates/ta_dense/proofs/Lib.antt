@@ -20,11 +20,6 @@ mod EnterSoFar
 mod LeastSoFar
 mod FillSteps
 pub mod Primitive
-pub mod Bounded
-pub mod NarrowFacts
-mod RowCellFacts
-mod SharedFacts
 mod Mapped
-mod Halves
 mod EqualRows
 mod Common

@@ -9,13 +9,6 @@ pub mod Extending
 pub mod Fault
 pub mod Rows
 pub mod Dense
-pub mod Bounds
-pub mod Narrow
-pub mod Shared
-pub mod Small
 pub mod KeptRows
-pub mod RowCells
-pub mod SmallPivots
-pub mod GrownPivots
 pub mod Laws
 pub mod Inside

@@ -127,10 +127,6 @@ impl Dictionary for DenseDictionary {
             .saturating_mul(16)
     }
 
-    fn is_wide(&self) -> bool {
-        true
-    }
-
     fn keep(&self, alloc: Global, row: u32, column: u32) -> Result<DensePivot, AllocError> {
         let chosen = &self.rows[row as usize];
         let copy = padded_row(alloc, chosen, chosen.basic, chosen.cells.len())?;

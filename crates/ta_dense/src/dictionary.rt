@@ -108,9 +108,6 @@ pub trait Dictionary: Sized + Drop + Send {
     /// About how many bytes the dictionary holds: what its keeper may go by where memory is scarce.
     fn bytes(&self) -> usize;
 
-    /// Whether its numbers are of 128 bits: what is counted where narrow ones are measured.
-    fn is_wide(&self) -> bool;
-
     /// The row of the least basic variable with a negative constant. It takes no memory.
     fn leaving(&self) -> Option<u32>
         ensures found { IfSome result (Leaves (tableau self.now)) }

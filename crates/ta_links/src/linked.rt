@@ -194,10 +194,6 @@ impl Dictionary for LinkedDictionary {
             .saturating_mul(112)
     }
 
-    fn is_wide(&self) -> bool {
-        true
-    }
-
     /// It walks the row's own chain.
     fn entering(&self, row: u32) -> Option<u32> {
         let mut least = None;

@@ -16,3 +16,8 @@ pub mod ScaleFacts
 pub mod RowValues
 pub mod RevisedFacts
 pub mod RevisedLaws
+pub mod Bounded
+pub mod NarrowFacts
+mod RowCellFacts
+mod Halves
+mod Common

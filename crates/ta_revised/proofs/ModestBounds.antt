@@ -18,10 +18,10 @@ use Rattle.ta_dense.specs.Tableau.{Tableau, TableauRow, no_row, row_of, basic_of
 use Rattle.ta_dense.specs.Valid.{IsDictionaryRow}
 use Rattle.ta_dense.specs.Slack.{IsAssignment}
 use Rattle.ta_dense.specs.Laws.{DictionaryOf}
-use Rattle.ta_dense.specs.Bounds.{IsBound, AreBounded}
+use Rattle.ta_revised.specs.Bounds.{IsBound, AreBounded}
 use Rattle.ta_dense.specs.Merge.{CombinesInRange, MergesByInRange, MergesInRange}
 use Rattle.ta_dense.proofs.PivotLaws.{length-combine, get_or-combine}
-use Rattle.ta_dense.proofs.Bounded.{CombinesBelow, combines_below, IsBound-divided}
+use Rattle.ta_revised.proofs.Bounded.{CombinesBelow, combines_below, IsBound-divided}
 use Rattle.ta_revised.specs.UnknownRows.{unit_row}
 use Rattle.ta_revised.specs.Scale.{IsScale}
 use Rattle.ta_revised.specs.Slack.{plus_row, factor_of, plus_terms, scaled_constant, slack_sum, slack_row_over}
@@ -159,7 +159,7 @@ numbers-first scale d columns slack c some = record {
         let y : unsigned_abs c * (scale * 1) ≡ scale * unsigned_abs c = omega arith in
         omega arith
 
-weights : (c w scale : ℕ) → c + w ≤ 2 ^ 16 → scale ≤ 2 ^ 15 → c * (scale * 2 ^ 31) + w * (scale * 2 ^ 31) ≤ 2 ^ 62
+weights : (c w scale : ℕ) → c + w ≤ 2 ^ 16 → scale < 2 ^ 15 → c * (scale * 2 ^ 31) + w * (scale * 2 ^ 31) ≤ 2 ^ 62
 weights c w scale h k =
     let m : scale * 2 ^ 31 ≤ 2 ^ 46 = omega arith in
     let x = mul-le-mul h m in
@@ -167,7 +167,7 @@ weights c w scale h k =
     omega arith
 
 -- the row of a modest row's slack has numbers up to 2^62
-pub slack_bound : (scale columns slack low : ℕ) (rs : List TableauRow) (r : Row) → scale ≤ 2 ^ 15 → AreNumbers (2 ^ 31) columns rs
+pub slack_bound : (scale columns slack low : ℕ) (rs : List TableauRow) (r : Row) → scale < 2 ^ 15 → AreNumbers (2 ^ 31) columns rs
     → IsNormal low (length rs) r.form.terms → IsModestRow r → IsBound (2 ^ 62) (slack_row_over scale columns rs slack r)
 slack_bound scale columns slack low rs r few all normal modest =
     let first = numbers-first scale (2 ^ 31) columns slack r.form.constant (omega arith) in

@@ -2,8 +2,8 @@
 use Rattle.std.proofs.Common.{ℕ, ℤ, ◌≡◌, ◌<◌, ◌^◌, ◌∙◌, List, Option, Some, None, ap, arith, get_or, length, subst, sym}
 use Rattle.std.proofs.lemmas.List.{get_or-map, length-map}
 use Rattle.std.specs.Prelude.{IfSome, IfNone}
-use Rattle.ta_dense.specs.Bounds.{IsBound}
-use Rattle.ta_dense.specs.Narrow.{narrow_view}
+use Rattle.ta_revised.specs.Bounds.{IsBound}
+use Rattle.ta_revised.specs.Narrow.{narrow_view}
 use Rattle.ta_dense.specs.Tableau.{Tableau, no_row, row_of}
 use Rattle.ta_linear.specs.declared.row.System.{System}
 use Rattle.ta_revised.specs.Chosen.{LeastIs}

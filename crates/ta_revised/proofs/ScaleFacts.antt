@@ -5,7 +5,7 @@ use Rattle.std.proofs.Math.Nat.{mul-div_cancel', dvd-mul_right, dvd-mul_left, eq
 use Rattle.std.proofs.lemmas.Int.{ints, to_z-of_z, to_z_pos, unsigned_abs-mul}
 use Rattle.std.proofs.lemmas.List.{get_or-map, get_or_append_left, get_or_push, length-append}
 use Rattle.std.proofs.lemmas.Nat.Gcd.{dvd_trans}
-use Rattle.std.specs.Int.{◌∣◌, w32, w64}
+use Rattle.std.specs.Int.{◌∣◌, w16, w64}
 use Rattle.ta_base.proofs.Integers.{pos_abs, times_assoc}
 use Rattle.ta_dense.specs.Tableau.{no_row}
 use Rattle.ta_revised.specs.UnknownRows.{unknown_row, unknown_rows}
@@ -43,11 +43,11 @@ multiples_more columns scale next rows k r d h is multiple this before =
     (λ u less. dvd_trans _ (before u less) multiple) (rw (unknown_at columns rows k r d h is) this)
 
 -- the product of a quotient and a number, as it is computed
-pub computed_quotient : (scale n : ℕ) (z : ℤ) → scale ≤ 2 ^ 15 → FitsSigned w32 z
-    → to_z w64 (scale / n) *ℤ to_z w64 (of_z w64 (to_z w32 (of_z w32 z))) ≡ pos (scale / n) *ℤ z
+pub computed_quotient : (scale n : ℕ) (z : ℤ) → scale < 2 ^ 15 → FitsSigned w16 z
+    → to_z w64 (scale / n) *ℤ to_z w64 (of_z w64 (to_z w16 (of_z w16 z))) ≡ pos (scale / n) *ℤ z
 computed_quotient scale n z few fits =
     let wide : FitsSigned w64 z = omega (arith, ints, fits) in
-    rw (to_z-of_z w32 z fits, to_z-of_z w64 z wide, to_z_pos w64 (scale / n) (omega (arith, div-le_self scale n))) refl
+    rw (to_z-of_z w16 z fits, to_z-of_z w64 z wide, to_z_pos w64 (scale / n) (omega (arith, div-le_self scale n))) refl
 
 -- the product is the scale's where the number divides the scale
 pub scaled_value : (scale : ℕ) (d z : ℤ) → pos 0 <ℤ d → unsigned_abs d ∣ scale → d *ℤ (pos (scale / unsigned_abs d) *ℤ z) ≡ pos scale *ℤ z
@@ -57,7 +57,7 @@ scaled_value scale d z positive divides =
     sym (times_assoc d (pos (scale / unsigned_abs d)) z) ∙ ap (λ (x : ℤ). x *ℤ z) whole
 
 -- the product is small
-pub quotient_small : (scale n : ℕ) (z : ℤ) → scale ≤ 2 ^ 15 → unsigned_abs z < 2 ^ 31 → unsigned_abs (pos (scale / n) *ℤ z) ≤ 2 ^ 46
+pub quotient_small : (scale n : ℕ) (z : ℤ) → scale < 2 ^ 15 → unsigned_abs z < 2 ^ 31 → unsigned_abs (pos (scale / n) *ℤ z) ≤ 2 ^ 46
 quotient_small scale n z few small =
     let low : scale / n ≤ 2 ^ 15 = omega (arith, div-le_self scale n) in
     let high : unsigned_abs z ≤ 2 ^ 31 = omega arith in

@@ -1,4 +1,4 @@
--- sums of rows of 32-bit numbers and of multiples of the unknowns' rows
+-- sums of rows of 16-bit numbers and of multiples of the unknowns' rows
 use Rattle.std.proofs.Common.{◌≡◌, ℕ, ◌<◌, ◌≤◌, ◌+◌, ◌-◌, ◌*◌, ◌/◌, ◌^◌, List, [], length, set, get_or, replicate, arith, refl, sym, ap, subst, ◌∙◌}
 use Rattle.std.proofs.Common.{inl, inr, ℤ, pos, neg_ℤ, ◌+ℤ◌, ◌-ℤ◌, ◌*ℤ◌, ◌<ℤ◌, unsigned_abs, get_or-set_same, get_or-set_other, drop}
 use Rattle.std.specs.Prelude.{int_div}
@@ -7,7 +7,7 @@ use Rattle.std.proofs.lemmas.Int.{ints}
 use Rattle.std.proofs.lemmas.List.{ext_get_or, get_or-map, length-replicate, length-set, drop_more}
 use Rattle.std.proofs.lemmas.List.Elements.{All-from_get_or, All-set}
 use Rattle.std.proofs.Math.ListN.{drop_of_length-le}
-use Rattle.ta_base.proofs.Integers.{abs_sum, product_le, fits32, unsigned_abs-neg, expand, div-one, replicate_zeros, pos_abs}
+use Rattle.ta_base.proofs.Integers.{abs_sum, product_le, unsigned_abs-neg, expand, div-one, replicate_zeros, pos_abs}
 use Rattle.ta_base.proofs.Lists.{has_read}
 use Rattle.ta_linear.specs.declared.row.Row.{Row}
 use Rattle.ta_linear.specs.declared.row.System.{System}
@@ -16,11 +16,11 @@ use Rattle.ta_linear.specs.Terms.{IsNormal}
 use Rattle.ta_linear.proofs.TermLemmas.{IsNormal-le}
 use Rattle.ta_dense.specs.Tableau.{Tableau, TableauRow, cell_of, combine, no_row, reduced}
 use Rattle.ta_dense.specs.Merge.{IsProper}
-use Rattle.ta_dense.specs.Bounds.{AreBounded, IsBound, CombinesIn32, AllCombineIn32}
-use Rattle.ta_dense.specs.Narrow.{narrow_view, IsNarrow}
-use Rattle.ta_dense.specs.declared.narrow_rows.NarrowRow.{NarrowRow}
-use Rattle.ta_dense.proofs.Bounded.{cell_le, in_range_of}
-use Rattle.ta_dense.proofs.NarrowFacts.{narrow_reduced}
+use Rattle.ta_revised.specs.Bounds.{AreBounded, IsBound, CombinesIn16, AllCombineIn16}
+use Rattle.ta_revised.specs.Narrow.{narrow_view, IsNarrow}
+use Rattle.ta_revised.specs.declared.narrow_rows.NarrowRow.{NarrowRow}
+use Rattle.ta_revised.proofs.Bounded.{cell_le, fits16, in_range_of}
+use Rattle.ta_revised.proofs.NarrowFacts.{narrow_reduced}
 use Rattle.ta_dense.proofs.PivotLaws.{get_or-combine, length-combine}
 use Rattle.ta_dense.specs.Slack.{variables}
 use Rattle.ta_dense.proofs.DenseFacts.{terms_at}
@@ -32,12 +32,12 @@ use Rattle.ta_revised.specs.UnknownRows.{AreUnknownRows, IsUnknownRow, unit_row,
 use Rattle.ta_revised.specs.declared.revised.RevisedDictionary.TheInside.{Inside}
 use Rattle.ta_revised.specs.declared.unknown_rows.UnknownRow.{UnknownRow}
 use Rattle.ta_revised.specs.declared.unknown_rows.UnknownRow.TheVariants.{Column, Basic}
-use mir.Syntax.{w32}
+use mir.Syntax.{w16}
 use mir.Val.{SFits}
 
 -- a row of numbers with a bound is narrow where the bound fits
 narrow_of : (n : ℕ) (new : NarrowRow) (x : TableauRow) → narrow_view new ≡ x → pos 0 <ℤ x.denominator → length x.cells ≡ n → IsBound new.bound x
-    → new.bound < 2 ^ 31 → IsNarrow n new
+    → new.bound < 2 ^ 15 → IsNarrow n new
 narrow_of n new x e positive long bounded fits = record {
   proper = subst (IsProper n) (sym e) (record {
     positive = positive;
@@ -52,7 +52,7 @@ narrow_of n new x e positive long bounded fits = record {
 
 -- a row with a number more in a cell
 pub narrow_plus_cell : (n column : ℕ) (f : ℤ) (a new : NarrowRow) → IsNarrow n a → column < n → narrow_view new ≡ plus_cell column f (narrow_view a)
-    → new.bound ≡ a.bound + unsigned_abs f → new.bound < 2 ^ 31 → IsNarrow n new
+    → new.bound ≡ a.bound + unsigned_abs f → new.bound < 2 ^ 15 → IsNarrow n new
 narrow_plus_cell n column f a new k h e b fits =
     let long = k.proper.long in
     let own = k.bounded.denominator in
@@ -80,7 +80,7 @@ combined_le f x c a b h k = rw (plus_is f x c) (plus_le f x c a b h k)
 
 -- a row and so many times another
 pub narrow_plus_row : (n : ℕ) (f : ℤ) (b : ℕ) (r : TableauRow) (a new : NarrowRow) → IsNarrow n a → IsBound b r → length r.cells ≡ n
-    → narrow_view new ≡ plus_row f r (narrow_view a) → new.bound ≡ a.bound + unsigned_abs f * b → new.bound < 2 ^ 31 → IsNarrow n new
+    → narrow_view new ≡ plus_row f r (narrow_view a) → new.bound ≡ a.bound + unsigned_abs f * b → new.bound < 2 ^ 15 → IsNarrow n new
 narrow_plus_row n f b r a new k h wide e is fits =
     let long = k.proper.long in
     let same : length a.cells ≡ length r.cells = omega arith in
@@ -98,27 +98,27 @@ narrow_plus_row n f b r a new k h wide e is fits =
           omega arith));
     }) fits
 
--- what the sum computes fits 32 bits
-pub product_fits : (f c : ℤ) (b t : ℕ) → unsigned_abs c ≤ b → t + unsigned_abs f * b < 2 ^ 31 → SFits w32 (f *ℤ c)
-product_fits f c b t h k = fits32 (f *ℤ c) (unsigned_abs f * b) (product_le f c b h) (omega arith)
+-- what the sum computes fits 16 bits
+pub product_fits : (f c : ℤ) (b t : ℕ) → unsigned_abs c ≤ b → t + unsigned_abs f * b < 2 ^ 15 → SFits w16 (f *ℤ c)
+product_fits f c b t h k = fits16 (f *ℤ c) (unsigned_abs f * b) (product_le f c b h) (omega arith)
 
-pub sum_fits : (f x c : ℤ) (a b : ℕ) → unsigned_abs x ≤ a → unsigned_abs c ≤ b → a + unsigned_abs f * b < 2 ^ 31 → SFits w32 (x +ℤ f *ℤ c)
-sum_fits f x c a b h k within = fits32 (x +ℤ f *ℤ c) (a + unsigned_abs f * b) (plus_le f x c a b h k) within
+pub sum_fits : (f x c : ℤ) (a b : ℕ) → unsigned_abs x ≤ a → unsigned_abs c ≤ b → a + unsigned_abs f * b < 2 ^ 15 → SFits w16 (x +ℤ f *ℤ c)
+sum_fits f x c a b h k within = fits16 (x +ℤ f *ℤ c) (a + unsigned_abs f * b) (plus_le f x c a b h k) within
 
 -- those of one place, and of each
-combines_fit : (f x c : ℤ) (a b : ℕ) → unsigned_abs x ≤ a → unsigned_abs c ≤ b → a + unsigned_abs f * b < 2 ^ 31 → CombinesIn32 (pos 1) x (neg_ℤ f) c
+combines_fit : (f x c : ℤ) (a b : ℕ) → unsigned_abs x ≤ a → unsigned_abs c ≤ b → a + unsigned_abs f * b < 2 ^ 15 → CombinesIn16 (pos 1) x (neg_ℤ f) c
 combines_fit f x c a b h k within =
     let product = product_le f c b k in
     let same : x ≡ pos 1 *ℤ x = omega (arith, ints) in
     record {
-      left = fits32 (pos 1 *ℤ x) a (subst (λ (z : ℤ). unsigned_abs z ≤ a) same h) (omega arith);
-      right = fits32 (neg_ℤ f *ℤ c) (unsigned_abs f * b) (subst (λ (m : ℕ). unsigned_abs (neg_ℤ f *ℤ c) ≤ m * b) (unsigned_abs-neg f)
+      left = fits16 (pos 1 *ℤ x) a (subst (λ (z : ℤ). unsigned_abs z ≤ a) same h) (omega arith);
+      right = fits16 (neg_ℤ f *ℤ c) (unsigned_abs f * b) (subst (λ (m : ℕ). unsigned_abs (neg_ℤ f *ℤ c) ≤ m * b) (unsigned_abs-neg f)
           (product_le (neg_ℤ f) c b k)) (omega arith);
-      difference = fits32 (pos 1 *ℤ x -ℤ neg_ℤ f *ℤ c) (a + unsigned_abs f * b) (combined_le f x c a b h k) within;
+      difference = fits16 (pos 1 *ℤ x -ℤ neg_ℤ f *ℤ c) (a + unsigned_abs f * b) (combined_le f x c a b h k) within;
     }
 
-pub all_combine_fit : (f : ℤ) (a b : ℕ) (xs cs : List ℤ) → length cs ≡ length xs → AreBounded a xs → AreBounded b cs → a + unsigned_abs f * b < 2 ^ 31
-    → AllCombineIn32 (pos 1) (neg_ℤ f) xs cs
+pub all_combine_fit : (f : ℤ) (a b : ℕ) (xs cs : List ℤ) → length cs ≡ length xs → AreBounded a xs → AreBounded b cs → a + unsigned_abs f * b < 2 ^ 15
+    → AllCombineIn16 (pos 1) (neg_ℤ f) xs cs
 all_combine_fit f a b xs cs same h k within i below =
     combines_fit f (get_or xs i (pos 0)) (get_or cs i (pos 0)) a b (cell_le xs a i h below) (cell_le cs b i k (omega arith)) within
 

@@ -5,7 +5,7 @@ use Rattle.ta_linear.specs.declared.row.System.{System}
 use Rattle.ta_dense.specs.Tableau.{Tableau, TableauRow, row_of, basic_of, cell_of, pivoted}
 use Rattle.ta_dense.specs.Leaving.{Leaves, NoneLeaves}
 use Rattle.ta_dense.specs.Merge.{AllMergeInRange, MergesInRange}
-use Rattle.ta_dense.specs.Bounds.{IsBound}
+use Rattle.ta_revised.specs.Bounds.{IsBound}
 use Rattle.ta_dense.specs.Valid.{IsDictionaryRow}
 use Rattle.ta_dense.specs.Laws.{DictionaryOf}
 use Rattle.ta_revised.specs.UnknownRows.{AreAfter, unit_row}

@@ -1,3 +1,6 @@
+pub mod Bounds
+pub mod RowCells
+pub mod Narrow
 pub mod UnknownRows
 pub mod Revised
 pub mod Scale

@@ -3,7 +3,7 @@ use Rattle.std.specs.Prelude.{ℕ, ℤ, ◌<◌, ◌≤◌, ◌+◌, ◌^◌, Li
 use Rattle.std.specs.Int.{◌∣◌}
 use Rattle.ta_linear.specs.declared.row.Row.{Row}
 use Rattle.ta_dense.specs.Tableau.{Tableau, row_of, basic_of}
-use Rattle.ta_dense.specs.Bounds.{IsBound}
+use Rattle.ta_revised.specs.Bounds.{IsBound}
 
 -- the sum of the coefficients' absolute values
 abbrev pub weight_of : List (ℕ × ℤ) → ℕ
@@ -21,6 +21,6 @@ AreModestRows rs = All IsModestRow rs
 pub record IsModest (unknowns : ℕ) (t : Tableau) : Type 0 where
   pub scale : ℕ
   pub positive : 0 < scale
-  pub few : scale ≤ 2 ^ 15
+  pub few : scale < 2 ^ 15
   pub multiple : (i : ℕ) → i < length t.rows → basic_of t i < unknowns → unsigned_abs (row_of t i).denominator ∣ scale
   pub small : (i : ℕ) → i < length t.rows → basic_of t i < unknowns → IsBound (2 ^ 31) (row_of t i)

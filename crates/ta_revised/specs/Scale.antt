@@ -6,7 +6,7 @@ use Rattle.ta_dense.specs.Tableau.{TableauRow, no_row}
 -- a multiple of each row's denominator, that is not too great
 pub record IsScale (scale : ℕ) (rs : List TableauRow) : Type 0 where
   pub positive : 0 < scale
-  pub few : scale ≤ 2 ^ 15
+  pub few : scale < 2 ^ 15
   pub multiple : (u : ℕ) → u < length rs → unsigned_abs (get_or rs u no_row).denominator ∣ scale
 
 -- the value of each unknown where the non-basic variables are 0, times the scale

@@ -1,8 +1,8 @@
 -- The rows of the unknowns: what they mean, what they keep, and what a pivot makes of one.
 use Rattle.std.specs.Prelude.{ℕ, ◌<◌, ◌≡◌, ◌⊎◌, List, pos, map, set, length, get_or, replicate, All}
 use Rattle.ta_dense.specs.Tableau.{TableauRow, no_row, merged, turned}
-use Rattle.ta_dense.specs.Narrow.{narrow_view, IsNarrow, MergesIn32}
-use Rattle.ta_dense.specs.declared.narrow_rows.NarrowRow.{NarrowRow}
+use Rattle.ta_revised.specs.Narrow.{narrow_view, IsNarrow, MergesIn16}
+use Rattle.ta_revised.specs.declared.narrow_rows.NarrowRow.{NarrowRow}
 use Rattle.ta_revised.specs.declared.unknown_rows.UnknownRow.{UnknownRow}
 use Rattle.ta_revised.specs.declared.unknown_rows.UnknownRow.TheVariants.{Column, Basic}
 
@@ -26,10 +26,10 @@ IsUnknownRow columns (Basic r) = IsNarrow columns r
 abbrev pub AreUnknownRows : ℕ → List UnknownRow → Type 0
 AreUnknownRows columns xs = All (IsUnknownRow columns) xs
 
--- bounds show that it can be merged in 32 bits
+-- bounds show that it can be merged in 16 bits
 abbrev pub MayMerge : ℕ → NarrowRow → UnknownRow → Type 0
 MayMerge column chosen (Column v own) = Unit {0}
-MayMerge column chosen (Basic r) = MergesIn32 column chosen r
+MayMerge column chosen (Basic r) = MergesIn16 column chosen r
 
 abbrev pub AllMayMerge : ℕ → NarrowRow → List UnknownRow → Type 0
 AllMayMerge column chosen xs = All (MayMerge column chosen) xs

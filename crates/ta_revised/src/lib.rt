@@ -6,7 +6,8 @@
 //! the chosen row into far fewer rows, and a longer system needs no work at all for its new rows.
 //! Which variable leaves is seen from the values of the unknowns, row by row of the system.
 //!
-//! Numbers are of 32 bits. Where bounds don't show that these suffice, or where a common scale of
+//! Numbers are of 16 bits: most are far smaller, and loops over short numbers become vector code of
+//! many places. Where bounds don't show that these suffice, or where a common scale of
 //! the rows is too great, a call answers that there is none, and the caller takes dictionaries of
 //! ta_dense. Rows and scales within these limits show that no number of ta_dense's dictionary
 //! leaves 128 bits either (`modest_pivots_stay_in_range`).
@@ -16,7 +17,10 @@
 
 mod laws;
 mod modest;
+mod narrow_cells;
+mod narrow_rows;
 mod revised;
+mod row_cells;
 mod slack;
 mod unknown_rows;
 mod values;
@@ -26,4 +30,6 @@ pub use laws::{
     slacks_are_revised,
 };
 pub use modest::are_modest;
+pub use narrow_rows::NarrowRow;
 pub use revised::RevisedDictionary;
+pub use row_cells::RowCells;

@@ -4,8 +4,8 @@
 ghost use Rattle.std.specs.Prelude.{◌≡◌, ◌<◌, ◌≤◌, ◌+◌, ◌-◌, ◌++◌, ◌^◌, ℕ, pos, ◌<ℤ◌, length, map, set, get_or, IfOk, IfSome, IfNone};
 ghost use Rattle.ta_dense.specs.Tableau.{cell_of, row_of};
 ghost use Rattle.ta_dense.specs.Inside.Padded.{zero_filled};
-ghost use Rattle.ta_dense.specs.Bounds.{IsBound};
-ghost use Rattle.ta_dense.specs.Narrow.{narrow_view, IsNarrow};
+ghost use Rattle.ta_revised.specs.Bounds.{IsBound};
+ghost use Rattle.ta_revised.specs.Narrow.{narrow_view, IsNarrow};
 ghost use Rattle.ta_dense.specs.Slack.{variables};
 ghost use Rattle.ta_revised.specs.Modest.{AreModestRows};
 ghost use Rattle.ta_revised.specs.Chosen.{EntersBy, IsRowOf, LeavingIs, NoneEntersBy};
@@ -13,12 +13,13 @@ ghost use Rattle.ta_revised.specs.Revised.{first_rows, grown, unit_rows};
 ghost use Rattle.ta_revised.specs.Scale.{IsScale};
 ghost use Rattle.ta_revised.specs.UnknownRows.{AreAfter, AreUnknownRows, IsUnknownRow, unknown_row, unknown_rows};
 
+use crate::narrow_rows::{NarrowRow, least_bound, padded_narrow};
 use crate::slack::slack_row;
 use crate::unknown_rows::{UnknownRow, all_may_merge, copied, merge_rows};
 use crate::values::{least_negative, scale_of, values_of};
 use std::alloc::{AllocError, Global};
 use std::marker::Model;
-use ta_dense::{NarrowRow, least_bound, padded_narrow, raised_columns};
+use ta_dense::raised_columns;
 use ta_linear::System;
 
 /// About how many bytes a row takes beside its cells.
@@ -148,7 +149,7 @@ impl RevisedDictionary {
     }
 
     /// The constant and the denominator of an unknown's row.
-    pub fn value_at(&self, unknown: u32) -> (i32, i32)
+    pub fn value_at(&self, unknown: u32) -> (i16, i16)
         requires { unknown < length self.now.rows }
         ensures constant { result.0 ≡ (row_of self.now unknown).constant }
         ensures denominator { result.1 ≡ (row_of self.now unknown).denominator }
@@ -185,7 +186,7 @@ impl RevisedDictionary {
         Ok(least_negative(system, &values, scale))
     }
 
-    /// The row of a variable that leaves, where bounds show that it fits 32 bits: an unknown's own,
+    /// The row of a variable that leaves, where bounds show that it fits 16 bits: an unknown's own,
     /// and a slack's as the sum of these.
     pub fn row(
         &self,
@@ -237,7 +238,7 @@ impl RevisedDictionary {
     }
 
     /// The rows after the pivot on a cell of the row of the variable that leaves, where bounds show
-    /// that all of it fits 32 bits.
+    /// that all of it fits 16 bits.
     pub fn pivot(
         self,
         alloc: Global,

@@ -4,11 +4,11 @@
 ghost use Rattle.std.specs.Prelude.{◌≡◌, ◌<◌, pos, ◌<ℤ◌, length, IfOk};
 ghost use Rattle.std.specs.Bool.{OnTrue};
 ghost use Rattle.ta_dense.specs.Tableau.{cell_of, turned};
-ghost use Rattle.ta_dense.specs.Narrow.{narrow_view, IsNarrow};
+ghost use Rattle.ta_revised.specs.Narrow.{narrow_view, IsNarrow};
 ghost use Rattle.ta_revised.specs.UnknownRows.{AllMayMerge, AreAfter, AreUnknownRows, IsAfter, IsUnknownRow, MayMerge, unknown_row, unknown_rows};
 
+use crate::narrow_rows::{NarrowRow, merge_narrow, merges, turn_narrow};
 use std::alloc::{AllocError, Global};
-use ta_dense::{NarrowRow, merge_narrow, merges, turn_narrow};
 
 /// The row of an unknown.
 #[derive(Drop)]
@@ -19,7 +19,7 @@ pub(crate) enum UnknownRow {
     Basic(NarrowRow),
 }
 
-// Whether bounds show that the row can be merged in 32 bits. Where the row's bound doesn't, it is
+// Whether bounds show that the row can be merged in 16 bits. Where the row's bound doesn't, it is
 // taken anew.
 fn may_merge(chosen: &NarrowRow, column: usize, row: &mut UnknownRow) -> bool
     requires chosen { IsNarrow (length chosen.now.cells) chosen.now }
@@ -35,7 +35,7 @@ fn may_merge(chosen: &NarrowRow, column: usize, row: &mut UnknownRow) -> bool
     }
 }
 
-// Whether bounds show that each row can be merged in 32 bits.
+// Whether bounds show that each row can be merged in 16 bits.
 pub(crate) fn all_may_merge(rows: &mut [UnknownRow], chosen: &NarrowRow, column: usize) -> bool
     requires chosen { IsNarrow (length chosen.now.cells) chosen.now }
     requires rows { AreUnknownRows (length chosen.now.cells) rows.old }
@@ -63,7 +63,6 @@ pub(crate) fn copied(row: &NarrowRow) -> Result<NarrowRow, AllocError>
         constant: row.constant,
         cells: row.cells.shared()?,
         bound: row.bound,
-        sum: row.sum,
         met: 0,
     })
 }

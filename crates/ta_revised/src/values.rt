@@ -15,26 +15,29 @@ use crate::unknown_rows::UnknownRow;
 use std::alloc::{AllocError, Global};
 use ta_linear::{Row, System, gcd_natural};
 
-/// The greatest scale.
-const MOST: u32 = 1 << 15;
+/// Scales are below this.
+const LIMIT: u32 = 1 << 15;
 
 // The least common multiple of two numbers, if it isn't too great.
 fn common_multiple(scale: u32, denominator: u32) -> Option<u32>
     requires scale { 0 < scale }
-    requires few { scale ≤ 2 ^ 15 }
+    requires few { scale < 2 ^ 15 }
     requires positive { 0 < denominator }
-    requires small { denominator < 2 ^ 31 }
+    requires small { denominator < 2 ^ 15 }
     ensures first { IfSome result (λ m. scale ∣ m) }
     ensures second { IfSome result (λ m. denominator ∣ m) }
     ensures positive { IfSome result (λ m. 0 < m) }
-    ensures few { IfSome result (λ m. m ≤ 2 ^ 15) }
+    ensures few { IfSome result (λ m. m < 2 ^ 15) }
 {
     if denominator == 1 {
         return Some(scale);
     }
+    if scale % denominator == 0 {
+        return Some(scale);
+    }
     let divisor = gcd_natural(scale as u128, denominator as u128) as u32;
     let multiple = (scale / divisor) as u64 * denominator as u64;
-    if multiple > MOST as u64 {
+    if multiple >= LIMIT as u64 {
         return None;
     }
     Some(multiple as u32)
@@ -45,12 +48,12 @@ fn denominator_of(row: &UnknownRow, columns: usize) -> u32
     requires { IsUnknownRow columns row.now }
     ensures value { result ≡ unsigned_abs (unknown_row columns row.now).denominator }
     ensures positive { 0 < result }
-    ensures small { result < 2 ^ 31 }
+    ensures small { result < 2 ^ 15 }
 {
     let _columns = columns;
     match row {
         UnknownRow::Column { .. } => 1,
-        UnknownRow::Basic(basic) => basic.denominator.unsigned_abs(),
+        UnknownRow::Basic(basic) => basic.denominator.unsigned_abs() as u32,
     }
 }
 
@@ -69,7 +72,7 @@ pub(crate) fn scale_of(rows: &[UnknownRow], columns: usize) -> Option<u32>
 // The value of a row's unknown, times the scale.
 fn value_of(row: &UnknownRow, columns: usize, scale: u32) -> i64
     requires row { IsUnknownRow columns row.now }
-    requires few { scale ≤ 2 ^ 15 }
+    requires few { scale < 2 ^ 15 }
     requires multiple { unsigned_abs (unknown_row columns row.now).denominator ∣ scale }
     ensures value { (unknown_row columns row.now).denominator *ℤ result ≡ pos scale *ℤ (unknown_row columns row.now).constant }
     ensures small { unsigned_abs result ≤ 2 ^ 46 }
@@ -78,7 +81,7 @@ fn value_of(row: &UnknownRow, columns: usize, scale: u32) -> i64
     match row {
         UnknownRow::Column { .. } => 0,
         UnknownRow::Basic(basic) => {
-            (scale / basic.denominator.unsigned_abs()) as i64 * basic.constant as i64
+            (scale / basic.denominator.unsigned_abs() as u32) as i64 * basic.constant as i64
         }
     }
 }
@@ -105,7 +108,7 @@ pub(crate) fn values_of(
 fn row_value_of(row: &Row, values: &[i64], scale: u32) -> i64
     requires row { IsNormal 0 (length values.now) row.now.form.terms }
     requires modest { IsModestRow row.now }
-    requires few { scale ≤ 2 ^ 15 }
+    requires few { scale < 2 ^ 15 }
     requires small { (u : ℕ) → u < length values.now → unsigned_abs (get_or values.now u (pos 0)) ≤ 2 ^ 46 }
     ensures { result ≡ row_value scale values.now row.now }
 {
@@ -135,7 +138,7 @@ fn negative_row(system: &System, values: &[i64], scale: u32) -> Option<u32>
     requires room { variables system.now < 2 ^ 32 }
     requires count { length values.now ≡ system.now.unknowns }
     requires modest { AreModestRows system.now.rows }
-    requires few { scale ≤ 2 ^ 15 }
+    requires few { scale < 2 ^ 15 }
     requires small { (u : ℕ) → u < length values.now → unsigned_abs (get_or values.now u (pos 0)) ≤ 2 ^ 46 }
     ensures found { IfSome result (λ i. (i < length system.now.rows) × IsSomeAnd (slice_get system.now.rows i) (λ r. row_value scale values.now r <ℤ pos 0)
         × RowsHold scale values.now system.now.rows i) }
@@ -155,7 +158,7 @@ pub(crate) fn least_negative(system: &System, values: &[i64], scale: u32) -> Opt
     requires room { variables system.now < 2 ^ 32 }
     requires count { length values.now ≡ system.now.unknowns }
     requires modest { AreModestRows system.now.rows }
-    requires few { scale ≤ 2 ^ 15 }
+    requires few { scale < 2 ^ 15 }
     requires small { (u : ℕ) → u < length values.now → unsigned_abs (get_or values.now u (pos 0)) ≤ 2 ^ 46 }
     ensures found { IfSome result (IsLeastNegative scale system.now values.now) }
     ensures none { IfNone result (NoneIsNegative scale system.now values.now) }

@@ -8,7 +8,7 @@ use Rattle.ta_simplex.proofs.Common.{raised, widened, extended, MakesPivot, Begi
 use Rattle.std.proofs.lemmas.List.Elements.{All-append, All-replicate}
 use Rattle.std.proofs.lemmas.List.FromFn.{get_or-range_with_len, get_or-map-range_with_len}
 use Rattle.std.specs.Prelude.{unsigned_abs}
-use Rattle.ta_dense.specs.Bounds.{AreBounded, IsBound}
+use Rattle.ta_revised.specs.Bounds.{AreBounded, IsBound}
 use Rattle.ta_dense.specs.Inside.Padded.{zero_filled}
 use Rattle.ta_dense.specs.Valid.{IsDictionaryRow}
 use Rattle.ta_dense.proofs.Unique.{unique_row}

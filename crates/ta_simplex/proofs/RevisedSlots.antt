@@ -3,8 +3,8 @@ use Rattle.ta_simplex.proofs.Common.{◌≡◌, inl, inr, ℕ, ◌+◌, ◌^◌,
 use Rattle.ta_simplex.proofs.Common.{ints}
 use Rattle.ta_simplex.proofs.Common.{replicate, cases_lt, length-append, Option, IsSomeAnd, get_end, slice_get_before, System, Tableau, TableauRow, row_of}
 use Rattle.ta_simplex.proofs.Common.{non_basic_of, variables, InRange, Fraction, ValueIs, put, FillSlots}
-use Rattle.ta_dense.specs.Bounds.{IsBound}
-use Rattle.ta_dense.proofs.Bounded.{cell_le}
+use Rattle.ta_revised.specs.Bounds.{IsBound}
+use Rattle.ta_revised.proofs.Bounded.{cell_le}
 use Rattle.ta_simplex.specs.RevisedRuns.{AreRevisedValues, IsStuckAt}
 use Rattle.ta_simplex.proofs.SlotLemmas.{Filled, fill-first, fill-next, fill-last}
 
@@ -27,7 +27,7 @@ values-push d unknown values f top bottom are =
     }
 
 -- the row's own multiplier
-pub slots_first : (s : System) (d t : Tableau) (r : TableauRow) (row bound : ℕ) (ms : List ℤ) → IsStuckAt s d r t row → IsBound bound r → bound < 2 ^ 31
+pub slots_first : (s : System) (d t : Tableau) (r : TableauRow) (row bound : ℕ) (ms : List ℤ) → IsStuckAt s d r t row → IsBound bound r → bound < 2 ^ 15
     → ms ≡ replicate (length s.rows) (pos 0) → Filled s.unknowns (length s.rows) t row 0 (put s.unknowns ms r.basic r.denominator)
 slots_first s d t r row bound ms stuck bounded small none =
     let h = stuck.stuck.leaves.below in
@@ -40,7 +40,7 @@ slots_first s d t r row bound ms stuck bounded small none =
 
 -- the multiplier of a column
 pub slots_next : (s : System) (d t : Tableau) (r : TableauRow) (row bound column : ℕ) (ms : List ℤ) → IsStuckAt s d r t row → IsBound bound r
-    → bound < 2 ^ 31 → length r.cells ≡ length d.non_basic → column < length d.non_basic → Filled s.unknowns (length s.rows) t row column ms →
+    → bound < 2 ^ 15 → length r.cells ≡ length d.non_basic → column < length d.non_basic → Filled s.unknowns (length s.rows) t row column ms →
     Filled s.unknowns (length s.rows) t row (column + 1) (put s.unknowns ms (get_or d.non_basic column 0) (neg_ℤ (get_or r.cells column (pos 0))))
 slots_next s d t r row bound column ms stuck bounded small long inside f =
     let h = stuck.stuck.leaves.below in

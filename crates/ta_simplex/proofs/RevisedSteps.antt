@@ -3,7 +3,7 @@ use Rattle.ta_simplex.proofs.Common.{◌≡◌, inl, inr, ℕ, ◌+◌, ◌^◌,
 use Rattle.ta_simplex.proofs.Common.{subst, Option, Some, None, IsSomeAnd, slice_get, cases_lt, length-append, System, Tableau, TableauRow, row_of, basic_of}
 use Rattle.ta_simplex.proofs.Common.{non_basic_of, pivoted, slack_tableau, variables, IsAssignment, no_pivot, pivot_in, Enters, NoneEnters, Leaves}
 use Rattle.ta_simplex.proofs.Common.{AllMergeInRange, tableau_after, Fraction, ValueIs, GivesValues, AreLeafMultipliers, IsRefuted, IsVertex, ℤ}
-use Rattle.ta_dense.specs.Bounds.{IsBound}
+use Rattle.ta_revised.specs.Bounds.{IsBound}
 use Rattle.ta_dense.proofs.Unique.{unique_row}
 use Rattle.ta_revised.specs.UnknownRows.{AreAfter, unit_row}
 use Rattle.ta_revised.specs.Scale.{IsScale}

@@ -10,19 +10,22 @@ pub struct Effort {
     pub pivots: u64,
     /// The systems that began with their slacks.
     pub begun: u64,
-    /// The systems whose numbers became wide ones.
-    pub widened: u64,
+    /// The systems that came to an end over full dictionaries.
+    pub full: u64,
     /// The dictionaries that were given up since all together held too much.
     pub given_up: u64,
 }
 
 impl Effort {
     /// Counts a system that came to an end, by so many pivots.
-    pub(crate) fn add(&mut self, pivots: usize, widened: bool) {
+    pub(crate) fn add(&mut self, pivots: usize) {
         self.pivots = self.pivots.saturating_add(pivots as u64);
-        if widened {
-            self.widened = self.widened.saturating_add(1);
-        }
+    }
+
+    /// Counts a system that came to an end over full dictionaries, by so many pivots.
+    pub(crate) fn add_full(&mut self, pivots: usize) {
+        self.add(pivots);
+        self.full = self.full.saturating_add(1);
     }
 
     /// Counts a system that begins with its slacks.

@@ -89,12 +89,11 @@ impl<D: Dictionary> FullBranch<D> {
         ensures fault { IfErr result (IsSolveFault system.now) }
     {
         self.give_up_last(system, same);
-        let was_wide = self.is_wide();
         let first = self.first_dictionary(alloc, system)?;
         let before = self.kept.len();
         let Ended { end, dictionary } = resume(alloc, system, first, &mut self.kept)?;
         let pivots = self.kept.len().saturating_sub(before);
-        self.effort.add(pivots, dictionary.is_wide() && !was_wide);
+        self.effort.add_full(pivots);
         match end {
             End::Refuted(multipliers) => Ok(End::Refuted(multipliers)),
             End::Vertex(values) => {
@@ -123,14 +122,6 @@ impl<D: Dictionary> FullBranch<D> {
         match self.systems.as_slice().split_last() {
             None => false,
             Some((last, _)) => last.unknowns > unknowns || last.rows > same,
-        }
-    }
-
-    // Whether there is a last system and its numbers are wide.
-    fn is_wide(&self) -> bool {
-        match self.systems.as_slice().split_last() {
-            None => false,
-            Some((last, _)) => last.dictionary.is_wide(),
         }
     }
 

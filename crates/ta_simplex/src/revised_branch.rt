@@ -94,7 +94,7 @@ impl RevisedBranch {
             dictionary,
             pivots,
         } = ran;
-        effort.add(pivots, false);
+        effort.add(pivots);
         match end {
             End::Refuted(multipliers) => Ok(Some(End::Refuted(multipliers))),
             End::Vertex(values) => {

@@ -3,7 +3,7 @@
 
 ghost use Rattle.std.specs.Prelude.{ℕ, ◌≡◌, ◌<◌, ◌^◌, length, IfOk};
 ghost use Rattle.ta_dense.specs.Tableau.{Tableau};
-ghost use Rattle.ta_dense.specs.Narrow.{narrow_view, IsNarrow};
+ghost use Rattle.ta_revised.specs.Narrow.{narrow_view, IsNarrow};
 ghost use Rattle.ta_dense.specs.Slack.{variables};
 ghost use Rattle.ta_simplex.specs.Inside.Slots.{FillSlots};
 ghost use Rattle.ta_simplex.specs.Refuted.{AreLeafMultipliers};
@@ -13,9 +13,8 @@ use crate::fraction::Fraction;
 use crate::multipliers::{put_slack, terms_of};
 use std::alloc::{AllocError, Global};
 use ta_base::List;
-use ta_dense::NarrowRow;
 use ta_linear::System;
-use ta_revised::RevisedDictionary;
+use ta_revised::{NarrowRow, RevisedDictionary};
 
 // The value of each unknown.
 pub(crate) fn revised_vertex(

@@ -12,7 +12,7 @@ use crate::draft::Draft;
 use crate::sampling::report_kind;
 use std::alloc::{AllocError, Global};
 use ta_base::limits::MOST_NODES;
-use ta_dense::NarrowDictionary;
+use ta_dense::DenseDictionary;
 use ta_report::Verdict;
 use ta_scope::ScopedFile;
 use ta_walk::{MomentEnd, visit_moments};
@@ -32,7 +32,7 @@ pub fn moments_verdict(
     ensures fits { IfOk result (VerdictFits scoped.now.file) }
     ensures drafted { IfOk result (λ verdict. OfPattern scoped.now.file pattern (λ p. DraftHasTree (tree_by true scoped.now.file nodes) p verdict draft.old draft.new)) }
 {
-    match visit_moments::<NarrowDictionary, Draft>(
+    match visit_moments::<DenseDictionary, Draft>(
         alloc,
         scoped,
         pattern,

@@ -23,7 +23,7 @@ use crate::saying::unwitnessed;
 use std::alloc::{AllocError, Global};
 use std::thread::Threads;
 use ta_base::limits::MOST_NODES;
-use ta_dense::NarrowDictionary;
+use ta_dense::DenseDictionary;
 use ta_encode::Solution;
 use ta_report::Verdict;
 use ta_rest::{Claim, ClaimTree};
@@ -53,7 +53,7 @@ pub fn words_verdict<R: Threads + Sync>(
 {
     let tree = ClaimTree::new(Claim::Safe, &scoped.file, pattern, &found.orders);
     let mut work = Work::new();
-    match visit::<NarrowDictionary, Draft, R, Idle>(
+    match visit::<DenseDictionary, Draft, R, Idle>(
         rt,
         alloc,
         &tree,

@@ -7,7 +7,7 @@ ghost use Rattle.ta_verdict.specs.Verdicts.{IsSample, place_of};
 use std::alloc::{AllocError, Global};
 use ta_automaton::File;
 use ta_base::limits::MOST_NODES;
-use ta_dense::NarrowDictionary;
+use ta_dense::DenseDictionary;
 use ta_report::{ReportKind, ReportSample};
 use ta_walk::{PlaceKind, SampleEnd, sample};
 
@@ -17,7 +17,7 @@ pub fn sample_of(alloc: Global, file: &File, nodes: u64) -> Result<ReportSample,
     requires limit { nodes ≤ MOST_NODES }
     ensures { IfOk result (IsSample file.now nodes) }
 {
-    match sample::<NarrowDictionary>(alloc, file, nodes)? {
+    match sample::<DenseDictionary>(alloc, file, nodes)? {
         SampleEnd::Sample(values) => Ok(ReportSample::Sample(values)),
         SampleEnd::Empty => Ok(ReportSample::Empty),
         SampleEnd::Spent { count } => Ok(ReportSample::Spent { count }),

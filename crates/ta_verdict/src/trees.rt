@@ -10,7 +10,7 @@ ghost use Rattle.ta_walk.specs.FoundOrders.{FoundOrders};
 use crate::draft::Draft;
 use std::alloc::{AllocError, Global};
 use ta_cert::Line;
-use ta_dense::NarrowDictionary;
+use ta_dense::DenseDictionary;
 use ta_scope::ScopedFile;
 use ta_walk::{OrdersFound, find_orders};
 
@@ -52,5 +52,5 @@ pub fn orders_of(alloc: Global, scoped: &ScopedFile) -> Result<OrdersFound, Allo
     ensures found { IfOk result (λ found. FoundOrders scoped.now.file.automaton found.list) }
     ensures same { IfOk result (λ found. found.orders ≡ map pair_of found.list) }
 {
-    find_orders::<NarrowDictionary>(alloc, scoped)
+    find_orders::<DenseDictionary>(alloc, scoped)
 }

@@ -9,7 +9,7 @@ use crate::farkas::row;
 use std::alloc::Global;
 use std::process::Abort;
 use ta_base::List;
-use ta_dense::{DenseDictionary, NarrowDictionary};
+use ta_dense::DenseDictionary;
 use ta_linear::System;
 use ta_links::LinkedDictionary;
 use ta_simplex::{Branch, Effort, End, SolveFault, solve};
@@ -49,9 +49,9 @@ fn multiple(rt: &impl Abort, alloc: Global, times: i128) -> System
 }
 
 // What a branch counts of two systems, each of one pivot, that share no row. The
-// numbers of the second have more than 32 bits.
+// numbers of the second have more than 16 bits.
 fn counted(rt: &impl Abort, alloc: Global) -> Effort {
-    let mut branch: Branch<NarrowDictionary> = Branch::new(alloc);
+    let mut branch: Branch<DenseDictionary> = Branch::new(alloc);
     let small = multiple(rt, alloc, 2);
     let large = multiple(rt, alloc, 1_099_511_627_776);
     branch.solve(alloc, &small, 0).expect(rt, "small numbers");
@@ -64,7 +64,7 @@ fn counts(rt: HostRuntime) {
     let effort = Effort {
         pivots: 2,
         begun: 2,
-        widened: 1,
+        full: 1,
         given_up: 0,
     };
     expect(&rt, counted(&rt, rt.alloc()) == effort, "counts");
@@ -85,7 +85,7 @@ fn is_half(end: &Result<End, SolveFault>) -> bool {
 #[test]
 fn a_branch_agrees(rt: HostRuntime) {
     let system = multiple(&rt, rt.alloc(), 2);
-    let mut branch: Branch<NarrowDictionary> = Branch::new(rt.alloc());
+    let mut branch: Branch<DenseDictionary> = Branch::new(rt.alloc());
     let revised = branch.solve(rt.alloc(), &system, 0);
     let full = solve::<DenseDictionary>(rt.alloc(), &system);
     expect(&rt, is_half(&revised), "revised rows");

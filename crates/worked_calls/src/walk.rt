@@ -4,9 +4,7 @@ use std::alloc::{AllocError, Global};
 use std::process::Abort;
 use std::sync::atomic::{AtomicU64, Ordering};
 use ta_base::limits::Limits;
-use ta_dense::{
-    DenseDictionary, DensePivot, Dictionary, ExtendFault, NarrowDictionary, PivotFault,
-};
+use ta_dense::{DenseDictionary, DensePivot, Dictionary, ExtendFault, PivotFault};
 use ta_implied::Orders;
 use ta_linear::System;
 use ta_maker::make_family;
@@ -67,10 +65,6 @@ impl Dictionary for NoRoom {
 
     fn bytes(&self) -> usize {
         self.dense.bytes()
-    }
-
-    fn is_wide(&self) -> bool {
-        self.dense.is_wide()
     }
 
     fn leaving(&self) -> Option<u32> {
@@ -160,7 +154,7 @@ fn halves_meet(rt: HostRuntime) {
     };
     let orders = Orders::new();
     let tree = ClaimTree::new(Claim::Safe, scoped.file(), 0, &orders);
-    let end = walk_gated::<NarrowDictionary, HostRuntime, Meeting>(
+    let end = walk_gated::<DenseDictionary, HostRuntime, Meeting>(
         &rt,
         rt.alloc(),
         &tree,
@@ -187,7 +181,7 @@ fn words_of_rest_are_walked(rt: HostRuntime) {
     );
     let orders = Orders::new();
     let tree = ClaimTree::new(Claim::RestSafe, rest.ending().file(), 0, &orders);
-    let end = walk::<NarrowDictionary, HostRuntime>(&rt, rt.alloc(), &tree, 10);
+    let end = walk::<DenseDictionary, HostRuntime>(&rt, rt.alloc(), &tree, 10);
     let end = end.expect(&rt, "memory");
     assert!(rt; matches!(end, WalkEnd::Refuted { count: 2, .. }));
 }

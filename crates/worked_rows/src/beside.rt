@@ -153,10 +153,6 @@ impl Dictionary for Beside {
         self.first.bytes()
     }
 
-    fn is_wide(&self) -> bool {
-        self.first.is_wide()
-    }
-
     fn leaving(&self) -> Option<u32> {
         self.first.leaving()
     }

@@ -1,4 +1,4 @@
-//! Rows of pivots, over each kind of rows side by side.
+//! Rows of pivots, over linked and dense rows side by side and over the rows of the unknowns.
 
 ghost use Rattle.std.specs.Prelude.{IsTrue, ◌≡◌, ◌≢◌, ◌<◌, ◌+◌, ◌^◌, pos, length, IfOk, OnOk};
 ghost use Rattle.ta_linear.specs.Numbers.{InRange};
@@ -6,13 +6,14 @@ ghost use Rattle.ta_linear.specs.Terms.{IsNormal};
 ghost use Rattle.ta_linear.specs.Rows.{AllBelow};
 ghost use Rattle.ta_dense.specs.Slack.{variables};
 
-use crate::beside::{Beside, are_same};
+use crate::beside::Beside;
 use crate::given::Given;
 use crate::table::cut;
 use std::alloc::{AllocError, Global};
 use ta_base::List;
-use ta_dense::{Dictionary, NarrowDictionary, PivotFault};
+use ta_dense::{DenseDictionary, Dictionary, PivotFault};
 use ta_linear::{Form, Row, System};
+use ta_simplex::{Branch, End as Solved, SolveFault};
 
 #[derive(Clone, Copy, Debug, PartialEq, Eq)]
 enum End {
@@ -23,12 +24,12 @@ enum End {
     Apart,
 }
 
-/// How many pivots were made, after how many the numbers were of 128 bits, and how it ended.
+/// How many pivots were made, how it ended, and whether a branch took full dictionaries.
 #[derive(Clone, Copy)]
 struct Course {
     pivots: u32,
-    wide_at: Option<u32>,
     end: End,
+    full: bool,
 }
 
 #[derive(Drop)]
@@ -100,56 +101,48 @@ fn next_step<D: Dictionary>(alloc: Global, dictionary: D) -> Step<D> {
     }
 }
 
-// One pivot over each kind of rows, where these are the same.
-fn next_steps<D: Dictionary, E: Dictionary>(alloc: Global, wide: D, narrow: E) -> Step<(D, E)> {
-    if !are_same(&wide, &narrow) {
-        return Step::Ended(End::Apart);
-    }
-    let first = next_step(alloc, wide);
-    let second = next_step(alloc, narrow);
-    match (first, second) {
-        (Step::Next(next), Step::Next(other)) => Step::Next((next, other)),
-        (Step::Ended(end), Step::Ended(other)) => {
-            Step::Ended(if end == other { end } else { End::Apart })
+// The pivots of the least-index rule over linked rows and dense ones beside them, and how they end.
+fn steps_of(alloc: Global, system: &System) -> Result<(u32, End), AllocError>
+    requires { variables system.now < 2 ^ 32 }
+{
+    let mut dictionary = Beside::from_system(alloc, system)?;
+    for pivots in 0..50 {
+        match next_step(alloc, dictionary) {
+            Step::Next(next) => dictionary = next,
+            Step::Ended(end) => return Ok((pivots, end)),
         }
-        _ => Step::Ended(End::Apart),
+    }
+    Ok((50, End::Apart))
+}
+
+// Whether a branch comes to an end of the same kind by as many pivots.
+fn agrees(solved: &Result<Solved, SolveFault>, made: u64, pivots: u32, end: End) -> bool {
+    match (solved, end) {
+        (Ok(Solved::Vertex(_)), End::Vertex) => made == pivots as u64,
+        (Ok(Solved::Refuted(_)), End::Stuck) => made == pivots as u64,
+        (Err(SolveFault::Overflow(at)), End::Overflow(_)) => *at == pivots as u64 + 1,
+        _ => false,
     }
 }
 
-// The pivots of the least-index rule over each kind of rows, as long as these are the same.
+// The same with the end of a branch, which takes the rows of the unknowns as long as these suffice.
 fn course_of(alloc: Global, system: &System) -> Result<Course, AllocError>
     requires { variables system.now < 2 ^ 32 }
 {
-    let mut wide = Beside::from_system(alloc, system)?;
-    let mut narrow = NarrowDictionary::from_system(alloc, system)?;
-    let mut wide_at = None;
-    for pivots in 0..50 {
-        if wide_at.is_none() && narrow.is_wide() {
-            wide_at = Some(pivots);
-        }
-        match next_steps(alloc, wide, narrow) {
-            Step::Next(both) => {
-                wide = both.0;
-                narrow = both.1;
-            }
-            Step::Ended(end) => {
-                return Ok(Course {
-                    pivots,
-                    wide_at,
-                    end,
-                });
-            }
-        }
-    }
+    let (pivots, end) = steps_of(alloc, system)?;
+    let mut branch: Branch<DenseDictionary> = Branch::new(alloc);
+    let solved = branch.solve(alloc, system, 0);
+    let effort = branch.effort();
+    let same = agrees(&solved, effort.pivots, pivots, end);
     Ok(Course {
-        pivots: 50,
-        wide_at,
-        end: End::Apart,
+        pivots,
+        end: if same { end } else { End::Apart },
+        full: effort.full > 0 || solved.is_err(),
     })
 }
 
-/// The pivots of a tower: how many were made, how it ended, and whether the numbers got 128 bits. The
-/// words are the number of levels and the two coefficients of each.
+/// The pivots of a tower: how many were made, how it ended, and whether a branch took full
+/// dictionaries. The words are the number of levels and the two coefficients of each.
 pub fn pivots(given: &mut Given, rest: &str) -> Result<(), AllocError> {
     let (levels, rest) = cut(rest);
     let (up, down) = cut(rest);
@@ -165,8 +158,8 @@ pub fn pivots(given: &mut Given, rest: &str) -> Result<(), AllocError> {
     given.number("", made.pivots);
     given.say(" pivots, ");
     given.value(&made.end);
-    if let Some(pivots) = made.wide_at {
-        given.number(", wide after ", pivots);
+    if made.full {
+        given.say(", full rows");
     }
     Ok(())
 }

@@ -12,7 +12,7 @@ use std::thread::Threads;
 use ta_automaton::File;
 use ta_base::limits::MOST_NODES;
 use ta_cert::{Order, Proof, write_cert};
-use ta_dense::NarrowDictionary;
+use ta_dense::DenseDictionary;
 use ta_rest::{Claim, ClaimTree};
 use ta_scope::ScopedFile;
 use ta_walk::{PlaceKind, WalkEnd, find_orders, walk};
@@ -36,10 +36,10 @@ pub fn end<R: Threads + Sync>(
     if !has_words(scoped.file()) || nodes == 0 || nodes > MOST_NODES {
         return given.end("no such walk");
     }
-    let found = find_orders::<NarrowDictionary>(given.alloc, scoped)?;
+    let found = find_orders::<DenseDictionary>(given.alloc, scoped)?;
     let tree = ClaimTree::new(Claim::Safe, scoped.file(), 0, &found.orders);
     let end = if narrow {
-        walk::<NarrowDictionary, R>(rt, given.alloc, &tree, nodes)
+        walk::<DenseDictionary, R>(rt, given.alloc, &tree, nodes)
     } else {
         walk::<Beside, R>(rt, given.alloc, &tree, nodes)
     };
@@ -84,11 +84,11 @@ pub fn solution<R: Threads + Sync>(
     if !has_words(scoped.file()) {
         return Ok(());
     }
-    let orders = find_orders::<NarrowDictionary>(given.alloc, scoped)?.orders;
+    let orders = find_orders::<DenseDictionary>(given.alloc, scoped)?.orders;
     let tree = ClaimTree::new(Claim::Safe, scoped.file(), 0, &orders);
     say_solution(
         given,
-        walk::<NarrowDictionary, R>(rt, given.alloc, &tree, MOST_NODES)?,
+        walk::<DenseDictionary, R>(rt, given.alloc, &tree, MOST_NODES)?,
     );
     Ok(())
 }

@@ -25,7 +25,7 @@ use std::thread::Threads;
 use ta_base::List;
 use ta_base::limits::MOST_NODES;
 use ta_cert::Line;
-use ta_dense::NarrowDictionary;
+use ta_dense::DenseDictionary;
 use ta_report::{Pick, Verdict};
 use ta_rest::RestFile;
 
@@ -155,11 +155,11 @@ fn next_verdict<R: Threads + Sync, P, T: Target<P>>(
     let mut proof = Draft::begin(alloc, target.wanted(), &Line::Pattern(pattern))?;
     let nodes = budget.nodes;
     let verdict = if budget.lazy {
-        verdict_by_moments::<NarrowDictionary, Draft>(
+        verdict_by_moments::<DenseDictionary, Draft>(
             alloc, rest, pattern, silent, nodes, &mut proof,
         )?
     } else {
-        rest_verdict::<NarrowDictionary, Draft, R>(rt, alloc, rest, pattern, nodes, &mut proof)?
+        rest_verdict::<DenseDictionary, Draft, R>(rt, alloc, rest, pattern, nodes, &mut proof)?
     };
     if !is_safe(&verdict) {
         return Ok(verdict);

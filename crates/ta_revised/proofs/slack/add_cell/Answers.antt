@@ -7,9 +7,10 @@ use Rattle.ta_revised.proofs.slack.add_cell.Goals as goal
 pub returns-clause-narrow : goal.returns-clause-narrow
 returns-clause-narrow c =
     let f = c.ranges.number in
-    let cells : c.write.new.self ≡ set c.args.sum.now.cells c.args.column (get_or c.args.sum.now.cells c.args.column (pos 0) +ℤ c.args.number) = search rules in
-    let abs = simp to_z-of_z at c.unsigned_abs.ensures.value in
-    let less = c.if-bound-ge-LIMIT.false in
-    narrow_plus_cell _ c.args.column c.args.number c.args.sum.now _ c.requires.sum c.requires.column
-    (row_same c.args.sum.now.basic c.args.sum.now.denominator c.args.sum.now.denominator c.args.sum.now.constant c.args.sum.now.constant _ _ refl refl cells)
-    (rw abs refl) less
+    let sum = c.has_room.new.sum in
+    let cells : c.write.new.self ≡ set sum.cells c.args.column (get_or sum.cells c.args.column (pos 0) +ℤ c.args.number) = search rules in
+    let abs = simp to_z-of_z at c.unsigned_abs-more.ensures.value in
+    let room = c.if-not-has_room.ensures.room in
+    narrow_plus_cell _ c.args.column c.args.number sum _ c.if-not-has_room.ensures.narrow c.requires.column
+    (row_same sum.basic sum.denominator sum.denominator sum.constant sum.constant _ _ refl refl cells)
+    (rw abs refl) room

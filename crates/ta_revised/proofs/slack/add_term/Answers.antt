@@ -3,18 +3,18 @@ use Rattle.std.proofs.lemmas.Int.{to_z-of_z}
 use Rattle.std.specs.Prelude.{IfOk}
 use Rattle.std.specs.Bool.{OnTrue}
 use Rattle.ta_dense.specs.Tableau.{TableauRow}
-use Rattle.ta_dense.specs.Narrow.{narrow_view, IsNarrow}
+use Rattle.ta_revised.specs.Narrow.{narrow_view, IsNarrow}
 use Rattle.ta_revised.specs.declared.unknown_rows.UnknownRow.{UnknownRow}
 use Rattle.ta_revised.specs.UnknownRows.{IsUnknownRow}
 use Rattle.ta_revised.proofs.SlackFacts.{column_added, basic_added}
 use Rattle.ta_revised.proofs.slack.add_term.Goals as goal
-use mir.Syntax.{w32}
+use mir.Syntax.{w16}
 use mir.Val.{SFits}
 
 pub returns-in-Some-clause-value : goal.returns-in-Some-clause-value
 returns-in-Some-clause-value c =
     let f = c.ranges.coefficient in
-    let g : SFits w32 c.in-Some.factor = search rules in
+    let g : SFits w16 c.in-Some.factor = search rules in
     let value = simp to_z-of_z at c.in-Some.ensures.value in
     let inside : c.in-Column.column < length c.args.sum.now.cells =
     subst (λ (u : UnknownRow). IsUnknownRow (length c.args.sum.now.cells) u) c.in-Column.is c.requires.row in
@@ -26,8 +26,8 @@ returns-in-Some-clause-value c =
 pub returns-in-Some-scaled-clause-value : goal.returns-in-Some-scaled-clause-value
 returns-in-Some-scaled-clause-value c =
     let f = c.ranges.coefficient in
-    let g : SFits w32 c.in-Some-scaled.factor = search rules in
-    let d : SFits w32 c.in-Basic.basic.denominator = search rules in
+    let g : SFits w16 c.in-Some-scaled.factor = search rules in
+    let d : SFits w16 c.in-Basic.basic.denominator = search rules in
     let value = simp to_z-of_z at c.in-Some-scaled.ensures.value in
     let narrow : IsNarrow (length c.args.sum.now.cells) c.in-Basic.basic =
     subst (λ (u : UnknownRow). IsUnknownRow (length c.args.sum.now.cells) u) c.in-Basic.is c.requires.row in

@@ -1,5 +1,5 @@
 use Rattle.std.proofs.Common.{length, drop}
-use Rattle.ta_dense.specs.Narrow.{narrow_view}
+use Rattle.ta_revised.specs.Narrow.{narrow_view}
 use Rattle.ta_revised.proofs.SlackFacts.{Adding}
 use Rattle.ta_revised.proofs.slack.add_terms.Given as goal
 

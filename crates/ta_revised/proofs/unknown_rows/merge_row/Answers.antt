@@ -1,5 +1,5 @@
 use Rattle.std.proofs.Common.{inl, length}
-use Rattle.ta_dense.specs.Narrow.{narrow_view}
+use Rattle.ta_revised.specs.Narrow.{narrow_view}
 use Rattle.ta_revised.proofs.UnitRow.{unit_stays}
 use Rattle.ta_revised.proofs.unknown_rows.merge_row.Goals as goal
 

@@ -3,7 +3,7 @@ use Rattle.std.proofs.lemmas.List.{length-map, map-set, get_or-map}
 use Rattle.std.proofs.lemmas.List.Elements.{All-set}
 use Rattle.ta_base.proofs.Lists.{rest_more}
 use Rattle.ta_dense.specs.Tableau.{TableauRow, no_row}
-use Rattle.ta_dense.specs.Narrow.{narrow_view}
+use Rattle.ta_revised.specs.Narrow.{narrow_view}
 use Rattle.ta_revised.specs.UnknownRows.{IsAfter, IsUnknownRow, unknown_row, unknown_rows}
 use Rattle.ta_revised.proofs.UnknownRowSteps.{after_more}
 use Rattle.ta_revised.proofs.unknown_rows.merge_rows.Goals as goal

@@ -1,5 +1,5 @@
 use Rattle.std.proofs.Common.{◌≡◌, ◌≤◌, ℕ, length, get_or}
-use Rattle.ta_dense.specs.Narrow.{narrow_view}
+use Rattle.ta_revised.specs.Narrow.{narrow_view}
 use Rattle.ta_revised.specs.UnknownRows.{AreUnknownRows, unknown_rows}
 use Rattle.ta_revised.specs.declared.unknown_rows.UnknownRow.{UnknownRow}
 use Rattle.ta_revised.proofs.UnknownRowSteps.{AfterBelow}

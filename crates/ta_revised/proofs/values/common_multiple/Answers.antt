@@ -1,12 +1,15 @@
 use Rattle.std.proofs.Common.{arith, ℕ, sym, subst}
 use Rattle.std.proofs.Math.Nat.{one-dvd, mul-pos}
-use Rattle.std.proofs.lemmas.Nat.Gcd.{le_of_dvd}
+use Rattle.std.proofs.lemmas.Nat.Gcd.{dvd_of_mod-eq-zero, le_of_dvd}
 use Rattle.std.specs.Int.{◌∣◌}
 use Rattle.ta_revised.proofs.ScaleFacts.{divisor_above, divides_multiple, quotient_above}
 use Rattle.ta_revised.proofs.values.common_multiple.Goals as goal
 
 pub returns-then-denominator-eq1-clause-second : goal.returns-then-denominator-eq1-clause-second
 returns-then-denominator-eq1-clause-second c = subst (λ (m : ℕ). m ∣ c.args.scale) (sym c.if-denominator-eq1.true) (one-dvd c.args.scale)
+
+pub returns-then-scale-denominator-eq0-clause-second : goal.returns-then-scale-denominator-eq0-clause-second
+returns-then-scale-denominator-eq0-clause-second c = dvd_of_mod-eq-zero c.args.denominator c.if-scale-denominator-eq0.true
 
 pub overflow_cast-divisor : goal.overflow_cast-divisor
 overflow_cast-divisor c =

@@ -1,13 +1,13 @@
 use Rattle.std.proofs.Common.{◌≤◌, ◌≡◌, ◌/◌, ◌^◌, ◌*ℤ◌, FitsSigned, arith, of_z, pos, rules, subst, to_z, unsigned_abs}
 use Rattle.std.proofs.lemmas.Int.{fits_signed_from_abs, to_z-of_z}
-use Rattle.std.specs.Int.{◌∣◌, w32, w64}
-use Rattle.ta_dense.specs.Narrow.{IsNarrow}
+use Rattle.std.specs.Int.{◌∣◌, w16, w64}
+use Rattle.ta_revised.specs.Narrow.{IsNarrow}
 use Rattle.ta_revised.specs.UnknownRows.{IsUnknownRow, unknown_row}
 use Rattle.ta_revised.specs.declared.unknown_rows.UnknownRow.{UnknownRow}
 use Rattle.ta_revised.proofs.ScaleFacts.{computed_quotient, scaled_value, quotient_small}
 use Rattle.ta_revised.proofs.values.value_of.Goals as goal
 
--- the row keeps what rows of 32-bit numbers keep
+-- the row keeps what rows of 16-bit numbers keep
 narrow : (c : goal.After-result-1) → IsNarrow c.args.columns c.in-Basic.basic
 narrow c = subst (λ (r : UnknownRow). IsUnknownRow c.args.columns r) c.in-Basic.is c.requires.row
 
@@ -21,10 +21,10 @@ small c =
 
 -- the product as it is computed
 computed : (c : goal.After-result-1) →
-    to_z w64 (c.args.scale / c.unsigned_abs.result) *ℤ to_z w64 (of_z w64 (to_z w32 (of_z w32 c.in-Basic.basic.constant)))
+    to_z w64 (c.args.scale / c.unsigned_abs.result) *ℤ to_z w64 (of_z w64 (to_z w16 (of_z w16 c.in-Basic.basic.constant)))
     ≡ pos (c.args.scale / c.unsigned_abs.result) *ℤ c.in-Basic.basic.constant
 computed c =
-    let fits : FitsSigned w32 c.in-Basic.basic.constant = search rules in
+    let fits : FitsSigned w16 c.in-Basic.basic.constant = search rules in
     computed_quotient c.args.scale c.unsigned_abs.result c.in-Basic.basic.constant c.requires.few fits
 
 -- the product fits 64 bits
@@ -36,7 +36,7 @@ overflow_mul-result c = rw (computed c) (fits_in c)
 
 pub returns-in-Basic-clause-value : goal.returns-in-Basic-clause-value
 returns-in-Basic-clause-value c =
-    let fits : FitsSigned w32 c.in-Basic.basic.denominator = search rules in
+    let fits : FitsSigned w16 c.in-Basic.basic.denominator = search rules in
     let divisor = simp to_z-of_z at c.unsigned_abs.ensures.value in
     let multiple = subst (λ (r : UnknownRow). unsigned_abs (unknown_row c.args.columns r).denominator ∣ c.args.scale) c.in-Basic.is c.requires.multiple in
     rw (computed c, to_z-of_z w64 _ (fits_in c), c.in-Basic.is, divisor)

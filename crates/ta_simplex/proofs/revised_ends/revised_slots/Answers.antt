@@ -1,8 +1,8 @@
 use Rattle.ta_simplex.proofs.Common.{◌≡◌, ◌<◌, ◌+◌, length, pos, neg_ℤ, ◌-ℤ◌, arith, rules, sym, ap, ◌∙◌, subst, to_z-of_z, with_items_is, SFits}
 use Rattle.ta_simplex.proofs.Common.{w128, zero_minus, InRange, replicate, length-replicate}
-use Rattle.std.specs.Int.{w32}
+use Rattle.std.specs.Int.{w16}
 use Rattle.ta_base.proofs.Integers.{minus_fits}
-use Rattle.ta_dense.specs.Narrow.{narrow_view}
+use Rattle.ta_revised.specs.Narrow.{narrow_view}
 use Rattle.ta_simplex.proofs.SlotLemmas.{Filled, length-put}
 use Rattle.ta_simplex.proofs.RevisedSlots.{slots_first, slots_next, slots_last}
 use Rattle.ta_simplex.proofs.revised_ends.revised_slots.Goals as goal
@@ -11,7 +11,7 @@ pub loop-column-init : goal.loop-column-init
 loop-column-init c =
     let s = c.args.system.now in
     let r = narrow_view c.args.chosen.now in
-    let fd : SFits w32 c.args.chosen.now.denominator = search rules in
+    let fd : SFits w16 c.args.chosen.now.denominator = search rules in
     let fe : SFits w128 c.args.chosen.now.denominator = search rules in
     let told = simp to_z-of_z at c.put_slack.ensures in
     let empty : c.in_ok-multipliers.multipliers.items ≡ replicate (length s.rows) (pos 0) = search rules in
@@ -30,7 +30,7 @@ loop-column-preserved c =
     let d = c.args.dictionary.now in
     let r = narrow_view c.args.chosen.now in
     let column = c.loop-column.column in
-    let fa : SFits w32 c.at.result = search rules in
+    let fa : SFits w16 c.at.result = search rules in
     let fb : SFits w128 c.at.result = search rules in
     let range : InRange c.at.result = search rules in
     let fm : SFits w128 (pos 0 -ℤ c.at.result) = minus_fits w128 c.at.result range in

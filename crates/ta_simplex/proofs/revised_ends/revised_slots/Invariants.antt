@@ -1,5 +1,5 @@
 use Rattle.ta_simplex.proofs.Common.{ℕ, ◌≡◌, length, Tableau}
-use Rattle.ta_dense.specs.Narrow.{narrow_view}
+use Rattle.ta_revised.specs.Narrow.{narrow_view}
 use Rattle.ta_simplex.specs.RevisedRuns.{IsStuckAt}
 use Rattle.ta_simplex.proofs.SlotLemmas.{Filled}
 use Rattle.ta_simplex.proofs.revised_ends.revised_slots.Given as goal

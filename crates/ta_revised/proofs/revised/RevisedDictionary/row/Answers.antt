@@ -2,7 +2,7 @@ use Rattle.std.proofs.Common.{◌≡◌, rules, ◌∙◌, ap, sym, subst, lengt
 use Rattle.std.proofs.lemmas.Result.{IfOk-weaker}
 use Rattle.std.proofs.lemmas.Option.{IfSome_then}
 use Rattle.ta_dense.specs.Tableau.{TableauRow}
-use Rattle.ta_dense.specs.Narrow.{narrow_view}
+use Rattle.ta_revised.specs.Narrow.{narrow_view}
 use Rattle.ta_revised.specs.Scale.{IsScale}
 use Rattle.ta_revised.specs.UnknownRows.{unknown_rows}
 use Rattle.std.proofs.lemmas.List.{length-map}
