@@ -5,7 +5,6 @@ use Rattle.ta_revised.proofs.Common.{◌<ℤ◌, unsigned_abs, get_or-set_same, 
 use Rattle.ta_revised.proofs.Common.{le_of_dvd, dvd_antisymm, one-dvd, SFits, abs_minus, abs_positive, div-one, product_le, quotient_le, unsigned_abs-neg}
 use Rattle.ta_revised.proofs.Common.{InRange, TableauRow, combine, merged_by, divided, turned, divisor_of, factor_divisor, CombinesInRange}
 use Rattle.ta_revised.proofs.Common.{MergesByInRange, AreBounded, IsBound, CombinesIn16, AllCombineIn16, IsGcd-gcd_of}
-use Rattle.std.proofs.Math.Nat.{mul-le-mul_right}
 use Rattle.std.proofs.lemmas.Int.{fits_signed_from_abs, ints}
 use Rattle.std.specs.Int.{w16}
 use Rattle.ta_dense.proofs.Divide.{gcd_with_divides}
@@ -17,11 +16,6 @@ fits16 z t h k = fits_signed_from_abs w16 z (omega arith)
 
 small_positive : (z : ℤ) → SFits w16 z → pos 0 <ℤ z → unsigned_abs z < 2 ^ 15
 small_positive z f h = omega (arith, ints, f)
-
--- smaller factors show as much
-pub factors_within : (c a : ℤ) (g b d : ℕ) → unsigned_abs c * b + unsigned_abs a * d < 2 ^ 15
-    → unsigned_abs (int_div c (pos g)) * b + unsigned_abs (int_div a (pos g)) * d < 2 ^ 15
-factors_within c a g b d h = omega (arith, mul-le-mul_right b (quotient_le c g), mul-le-mul_right d (quotient_le a g))
 
 abbrev pub IsSmall : ℤ → Type 0
 IsSmall z = unsigned_abs z < 2 ^ 15

@@ -22,7 +22,7 @@ pub use Rattle.ta_base.proofs.Integers.{unsigned_abs-neg, zero_minus}
 pub use Rattle.ta_base.proofs.Lists.{done_more, get_or-neg, rest_more}
 pub use Rattle.ta_revised.specs.Bounds.{AllCombineIn16, AreBounded, CombinesIn16, IsBound}
 pub use Rattle.ta_dense.specs.Merge.{CombinesInRange, IsProper, MergesByInRange, MergesInRange}
-pub use Rattle.ta_revised.specs.Narrow.{IsNarrow, MergesIn16, narrow_view}
+pub use Rattle.ta_revised.specs.Narrow.{IsNarrow, narrow_view}
 pub use Rattle.ta_dense.specs.Tableau.{TableauRow, cell_of, combine, divided, divisor_of, factor_divisor, gcd_with, merged_by}
 pub use Rattle.ta_dense.specs.Tableau.{no_row, reduced, turned}
 pub use Rattle.ta_revised.specs.declared.narrow_rows.NarrowRow.{NarrowRow}

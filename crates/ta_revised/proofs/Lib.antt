@@ -8,6 +8,7 @@ pub mod RowsRevised
 pub mod NegativeLeaves
 pub mod UnitRow
 mod UnknownRowSteps
+mod BasicLists
 mod EnterSoFar
 mod GrownRows
 mod PivotedRows

@@ -9,16 +9,14 @@ use Rattle.ta_revised.specs.declared.unknown_rows.UnknownRow.{UnknownRow}
 first_items : (count : ℕ) (xs ys : List UnknownRow) → length xs ≡ count → take count (xs ++ ys) ≡ xs
 first_items count xs ys e = subst (λ (n : ℕ). take n (xs ++ ys) ≡ xs) e (take-append_seam xs ys)
 
--- the rows are tested, and then merged
-pub after_pivot : (n wide m column count : ℕ) (chosen : TableauRow) (whole : List TableauRow) (inside first old middle new rest rest' : List UnknownRow)
-    → wide ≡ n → m ≡ n → unknown_rows n inside ≡ whole → first ≡ inside → unknown_rows wide old ≡ unknown_rows wide first → middle ≡ take count (old ++ rest)
-    → length old ≡ count → length new ≡ count → AreAfter wide column chosen (unknown_rows wide middle) (unknown_rows wide new)
-    → AreAfter n column chosen whole (unknown_rows m (take count (new ++ rest')))
-after_pivot n wide m column count chosen whole inside first old middle new rest rest' e f view is same tested l1 l2 after =
-    let before : unknown_rows wide middle ≡ whole = ap (unknown_rows wide) (tested ∙ first_items count old rest l1) ∙ same ∙ ap (unknown_rows wide) is
-    ∙ ap (λ (k : ℕ). unknown_rows k inside) e ∙ view in
-    let behind : unknown_rows wide new ≡ unknown_rows m (take count (new ++ rest')) = ap (λ (k : ℕ). unknown_rows k new) (e ∙ sym f)
-    ∙ ap (unknown_rows m) (sym (first_items count new rest' l2)) in
-    subst (λ (k : ℕ). AreAfter k column chosen whole (unknown_rows m (take count (new ++ rest')))) e
+pub after_pivot : (n wide m column count : ℕ) (chosen : TableauRow) (whole : List TableauRow) (inside old new rest : List UnknownRow)
+    → wide ≡ n → m ≡ n → unknown_rows n inside ≡ whole → old ≡ inside → length new ≡ count
+    → AreAfter wide column chosen (unknown_rows wide old) (unknown_rows wide new)
+    → AreAfter n column chosen whole (unknown_rows m (take count (new ++ rest)))
+after_pivot n wide m column count chosen whole inside old new rest e f view is l after =
+    let before : unknown_rows wide old ≡ whole = ap (unknown_rows wide) is ∙ ap (λ (k : ℕ). unknown_rows k inside) e ∙ view in
+    let behind : unknown_rows wide new ≡ unknown_rows m (take count (new ++ rest)) = ap (λ (k : ℕ). unknown_rows k new) (e ∙ sym f)
+    ∙ ap (unknown_rows m) (sym (first_items count new rest l)) in
+    subst (λ (k : ℕ). AreAfter k column chosen whole (unknown_rows m (take count (new ++ rest)))) e
     (subst (λ (rs : List TableauRow). AreAfter wide column chosen whole rs) behind
     (subst (λ (rs : List TableauRow). AreAfter wide column chosen rs (unknown_rows wide new)) before after))

@@ -42,6 +42,13 @@ is_behind xs ys count h k same =
     ext_get_or (pos 0) (zeros_behind xs count) ys (length_behind xs count h ∙ sym k)
     (λ j below. (let l = length_behind xs count h in cell_behind xs count j ∙ same j (omega arith)))
 
+-- zeros alone
+pub zeros_alone : (n count : ℕ) → n ≤ count → zeros_behind (replicate n (pos 0)) count ≡ replicate count (pos 0)
+zeros_alone n count h =
+    let l = length-replicate n (pos 0) in
+    is_behind (replicate n (pos 0)) (replicate count (pos 0)) count (omega arith) (length-replicate count (pos 0))
+    (λ j _. replicate_zeros n j ∙ sym (replicate_zeros count j))
+
 -- storing some of the zeros changes nothing
 pub own_behind : (xs : List ℤ) (count more : ℕ) → length xs ≤ count → more ≤ count → zeros_behind (zeros_behind xs more) count ≡ zeros_behind xs count
 own_behind xs count more h k =

@@ -1,15 +1,19 @@
 -- multiples and divisors of a common scale
-use Rattle.std.proofs.Common.{ℕ, ℤ, ◌<◌, ◌≤◌, ◌≡◌, ◌+◌, ◌/◌, ◌*◌, ◌^◌, ◌∙◌, ◌*ℤ◌, ◌<ℤ◌, FitsSigned, List, arith, ap, below_more, get_or, length}
-use Rattle.std.proofs.Common.{[], ◌∷◌, ◌++◌, of_z, pos, refl, subst, sym, to_z, unsigned_abs, zero, suc}
-use Rattle.std.proofs.Math.Nat.{mul-div_cancel', dvd-mul_right, dvd-mul_left, eq-zero_of_zero-dvd, div-le_self, mul-le-mul}
+use Rattle.std.proofs.Common.{ℕ, ℤ, ◌<◌, ◌≤◌, ◌≡◌, ◌+◌, ◌/◌, ◌*◌, ◌^◌, ◌∙◌, ◌*ℤ◌, ◌<ℤ◌, FitsSigned, List, arith, ap, below_more, get_or}
+use Rattle.std.proofs.Common.{inl, inr, length, replicate, set}
+use Rattle.std.proofs.Common.{of_z, pos, refl, subst, sym, to_z, unsigned_abs, zero, suc}
+use Rattle.std.proofs.Math.Nat.{mul-div_cancel', one-dvd, dvd-mul_right, dvd-mul_left, eq-zero_of_zero-dvd, div-le_self, mul-le-mul}
+use Rattle.std.proofs.lemmas.Bool.{cases_eq}
 use Rattle.std.proofs.lemmas.Int.{ints, to_z-of_z, to_z_pos, unsigned_abs-mul}
-use Rattle.std.proofs.lemmas.List.{get_or-map, get_or_append_left, get_or_push, length-append}
+use Rattle.std.proofs.lemmas.List.{get_or-map, get_or-set_same, get_or-set_other, length-map, length-replicate, length-set}
 use Rattle.std.proofs.lemmas.Nat.Gcd.{dvd_trans}
 use Rattle.std.specs.Int.{◌∣◌, w16, w64}
-use Rattle.ta_base.proofs.Integers.{pos_abs, times_assoc}
+use Rattle.ta_base.proofs.Integers.{pos_abs, replicate_zeros, times_assoc}
 use Rattle.ta_dense.specs.Tableau.{no_row}
-use Rattle.ta_revised.specs.UnknownRows.{unknown_row, unknown_rows}
+use Rattle.ta_revised.specs.Scale.{AreValues}
+use Rattle.ta_revised.specs.UnknownRows.{unknown_row, unknown_rows, IsColumn, ListsBasic}
 use Rattle.ta_revised.specs.declared.unknown_rows.UnknownRow.{UnknownRow}
+use Rattle.ta_revised.specs.declared.unknown_rows.UnknownRow.TheVariants.{Column, Basic}
 
 -- a divisor of a positive number is positive
 pub divisor_above : (g n : ℕ) → 0 < n → g ∣ n → 0 < g
@@ -33,14 +37,39 @@ pub unknown_at : (columns : ℕ) (rows : List UnknownRow) (u : ℕ) (r d : Unkno
     → get_or (unknown_rows columns rows) u no_row ≡ unknown_row columns r
 unknown_at columns rows u r d h is = get_or-map (unknown_row columns) rows u d no_row h ∙ ap (unknown_row columns) (sym is)
 
--- a scale that the denominators so far divide, and a multiple of it and of the next
-pub multiples_more : (columns scale next : ℕ) (rows : List UnknownRow) (k : ℕ) (r d : UnknownRow) → k < length rows → r ≡ get_or rows k d → scale ∣ next
-    → unsigned_abs (unknown_row columns r).denominator ∣ next
-    → ((u : ℕ) → u < k → unsigned_abs (get_or (unknown_rows columns rows) u no_row).denominator ∣ scale)
-    → (u : ℕ) → u < k + 1 → unsigned_abs (get_or (unknown_rows columns rows) u no_row).denominator ∣ next
-multiples_more columns scale next rows k r d h is multiple this before =
-    below_more (λ (u : ℕ). unsigned_abs (get_or (unknown_rows columns rows) u no_row).denominator ∣ next) k
-    (λ u less. dvd_trans _ (before u less) multiple) (rw (unknown_at columns rows k r d h is) this)
+-- the scale is a multiple of the denominators of the first listed unknowns' rows
+abbrev pub ListedDivide : ℕ → ℕ → List UnknownRow → List ℕ → ℕ → Type 0
+ListedDivide columns scale rows us k =
+    (i : ℕ) → i < k → unsigned_abs (get_or (unknown_rows columns rows) (get_or us i 0) no_row).denominator ∣ scale
+
+-- one more
+pub listed_divide : (columns scale next : ℕ) (rows : List UnknownRow) (us : List ℕ) (k : ℕ) (r d : UnknownRow) → get_or us k 0 < length rows
+    → r ≡ get_or rows (get_or us k 0) d → scale ∣ next → unsigned_abs (unknown_row columns r).denominator ∣ next
+    → ListedDivide columns scale rows us k → ListedDivide columns next rows us (k + 1)
+listed_divide columns scale next rows us k r d h is multiple this before =
+    below_more (λ (i : ℕ). unsigned_abs (get_or (unknown_rows columns rows) (get_or us i 0) no_row).denominator ∣ next) k
+    (λ i less. dvd_trans _ (before i less) multiple) (rw (unknown_at columns rows (get_or us k 0) r d h is) this)
+
+-- the row of an unknown that belongs to a column
+unit_denominator : (columns : ℕ) (x : UnknownRow) → IsColumn x → (unknown_row columns x).denominator ≡ pos 1
+unit_denominator columns (Column v column) is = refl
+unit_denominator columns (Basic _) is = elim is [ ]
+
+unit_constant : (columns : ℕ) (x : UnknownRow) → IsColumn x → (unknown_row columns x).constant ≡ pos 0
+unit_constant columns (Column v column) is = refl
+unit_constant columns (Basic _) is = elim is [ ]
+
+-- so the scale is a multiple of all denominators
+pub all_divide : (columns scale : ℕ) (rows : List UnknownRow) (us : List ℕ) (k : ℕ) → length us ≤ k → ListsBasic us rows
+    → ListedDivide columns scale rows us k → (u : ℕ) → u < length (unknown_rows columns rows)
+    → unsigned_abs (get_or (unknown_rows columns rows) u no_row).denominator ∣ scale
+all_divide columns scale rows us k all lists listed u h =
+    let none : UnknownRow = Column 0 0 in
+    let below : u < length rows = (let l = length-map rows (unknown_row columns) in omega arith) in
+    elim (lists.others u none below) [
+      | inl column ↦ rw (unknown_at columns rows u (get_or rows u none) none below refl, unit_denominator columns (get_or rows u none) column) (one-dvd scale)
+      | inr (i, low, e) ↦ subst (λ (v : ℕ). unsigned_abs (get_or (unknown_rows columns rows) v no_row).denominator ∣ scale) e (listed i (omega arith))
+    ]
 
 -- the product of a quotient and a number, as it is computed
 pub computed_quotient : (scale n : ℕ) (z : ℤ) → scale < 2 ^ 15 → FitsSigned w16 z
@@ -63,26 +92,73 @@ quotient_small scale n z few small =
     let high : unsigned_abs z ≤ 2 ^ 31 = omega arith in
     rw (unsigned_abs-mul (pos (scale / n)) z) (omega (arith, mul-le-mul low high))
 
--- values of the first unknowns, each times the scale
-pub record ValuesBelow (columns scale : ℕ) (rows : List UnknownRow) (values : List ℤ) (k : ℕ) : Type 0 where
-  pub count : length values ≡ k
-  pub each : (u : ℕ) → u < k → (get_or (unknown_rows columns rows) u no_row).denominator *ℤ get_or values u (pos 0)
-      ≡ pos scale *ℤ (get_or (unknown_rows columns rows) u no_row).constant
-  pub small : (u : ℕ) → u < k → unsigned_abs (get_or values u (pos 0)) ≤ 2 ^ 46
+-- a number is the value of an unknown, times the scale
+abbrev pub IsValue : ℕ → ℕ → List UnknownRow → ℕ → ℤ → Type 0
+IsValue columns scale rows u z = (get_or (unknown_rows columns rows) u no_row).denominator *ℤ z
+    ≡ pos scale *ℤ (get_or (unknown_rows columns rows) u no_row).constant
+
+-- values of the unknowns that belong to columns, and of the first listed ones
+pub record ValuesListed (columns scale : ℕ) (rows : List UnknownRow) (us : List ℕ) (values : List ℤ) (k : ℕ) : Type 0 where
+  pub count : length values ≡ length rows
+  pub columns_are : (u : ℕ) (d : UnknownRow) → u < length rows → IsColumn (get_or rows u d) → IsValue columns scale rows u (get_or values u (pos 0))
+  pub listed_are : (i : ℕ) → i < k → IsValue columns scale rows (get_or us i 0) (get_or values (get_or us i 0) (pos 0))
+  pub small : (u : ℕ) → u < length rows → unsigned_abs (get_or values u (pos 0)) ≤ 2 ^ 46
+
+-- at first all are 0
+pub values_none : (columns scale : ℕ) (rows : List UnknownRow) (us : List ℕ) (n : ℕ) → n ≡ length rows
+    → ValuesListed columns scale rows us (replicate n (pos 0)) 0
+values_none columns scale rows us n e = record {
+  count = length-replicate n (pos 0) ∙ e;
+  columns_are = λ u d h column.
+      rw (
+        unknown_at columns rows u (get_or rows u d) d h refl,
+        unit_denominator columns (get_or rows u d) column,
+        unit_constant columns (get_or rows u d) column,
+        replicate_zeros n u,
+      ) (omega (arith, ints));
+  listed_are = λ i h. absurd (omega arith);
+  small = λ u h. rw (replicate_zeros n u) (omega arith);
+}
 
 -- with the value of the next
-pub values_more : (columns scale : ℕ) (rows : List UnknownRow) (values : List ℤ) (k : ℕ) (r d : UnknownRow) (z : ℤ) → k < length rows → r ≡ get_or rows k d
+pub values_more : (columns scale : ℕ) (rows : List UnknownRow) (us : List ℕ) (values : List ℤ) (k : ℕ) (r d : UnknownRow) (z : ℤ)
+    → get_or us k 0 < length rows → r ≡ get_or rows (get_or us k 0) d
     → (unknown_row columns r).denominator *ℤ z ≡ pos scale *ℤ (unknown_row columns r).constant → unsigned_abs z ≤ 2 ^ 46
-    → ValuesBelow columns scale rows values k → ValuesBelow columns scale rows (values ++ z ∷ []) (k + 1)
-values_more columns scale rows values k r d z h is value small before =
+    → ValuesListed columns scale rows us values k → ValuesListed columns scale rows us (set values (get_or us k 0) z) (k + 1)
+values_more columns scale rows us values k r d z h is value small before =
+    let at = get_or us k 0 in
     let long = before.count in
+    let here : IsValue columns scale rows (get_or us k 0) z = rw (unknown_at columns rows at r d h is) value in
+    let kept : (u : ℕ) → IsValue columns scale rows u (get_or values u (pos 0))
+    → IsValue columns scale rows u (get_or (set values (get_or us k 0) z) u (pos 0)) = λ u was.
+    elim (cases_eq u at) [
+      | inl same ↦ rw (same, get_or-set_same values at z (pos 0) (omega arith)) here
+      | inr apart ↦ rw (get_or-set_other values at u z (pos 0) apart) was
+    ] in
     record {
-      count = omega (arith, length-append values (z ∷ []));
-      each = below_more (λ (u : ℕ). (get_or (unknown_rows columns rows) u no_row).denominator *ℤ get_or (values ++ z ∷ []) u (pos 0)
-          ≡ pos scale *ℤ (get_or (unknown_rows columns rows) u no_row).constant) k
-          (λ u less. rw (get_or_append_left values (z ∷ []) (pos 0) u (omega arith)) (before.each u less))
-          (rw (unknown_at columns rows k r d h is, get_or_push values z (pos 0) k before.count) value);
-      small = below_more (λ (u : ℕ). unsigned_abs (get_or (values ++ z ∷ []) u (pos 0)) ≤ 2 ^ 46) k
-          (λ u less. rw (get_or_append_left values (z ∷ []) (pos 0) u (omega arith)) (before.small u less))
-          (rw (get_or_push values z (pos 0) k before.count) small);
+      count = length-set values at z ∙ long;
+      columns_are = λ u e below column. kept u (before.columns_are u e below column);
+      listed_are = below_more (λ (i : ℕ). IsValue columns scale rows (get_or us i 0) (get_or (set values (get_or us k 0) z) (get_or us i 0) (pos 0))) k
+          (λ i less. kept (get_or us i 0) (before.listed_are i less)) (rw (get_or-set_same values at z (pos 0) (omega arith)) here);
+      small = λ u below.
+          elim (cases_eq u at) [
+            | inl same ↦ rw (same, get_or-set_same values at z (pos 0) (omega arith)) small
+            | inr apart ↦ rw (get_or-set_other values at u z (pos 0) apart) (before.small u below)
+          ];
+    }
+
+-- in the end all are there
+pub values_all : (columns scale : ℕ) (rows : List UnknownRow) (us : List ℕ) (values : List ℤ) (k : ℕ) → length us ≤ k → ListsBasic us rows
+    → ValuesListed columns scale rows us values k → AreValues scale (unknown_rows columns rows) values
+values_all columns scale rows us values k all lists listed =
+    let none : UnknownRow = Column 0 0 in
+    let l = length-map rows (unknown_row columns) in
+    record {
+      count = listed.count ∙ sym l;
+      each = λ u h.
+          elim (lists.others u none (omega arith)) [
+            | inl column ↦ listed.columns_are u none (omega arith) column
+            | inr (i, low, e) ↦ subst (λ (v : ℕ). IsValue columns scale rows v (get_or values v (pos 0))) e (listed.listed_are i (omega arith))
+          ];
+      small = λ u h. listed.small u (omega arith);
     }

@@ -1,5 +1,6 @@
 -- sums of rows of 16-bit numbers and of multiples of the unknowns' rows
-use Rattle.std.proofs.Common.{◌≡◌, ℕ, ◌<◌, ◌≤◌, ◌+◌, ◌-◌, ◌*◌, ◌/◌, ◌^◌, List, [], length, set, get_or, replicate, arith, refl, sym, ap, subst, ◌∙◌}
+use Rattle.std.proofs.Common.{◌≡◌, ℕ, ◌<◌, ◌≤◌, ◌+◌, ◌-◌, ◌*◌, ◌/◌, ◌^◌, zero, suc, List, [], ◌∷◌, length, set, get_or, replicate}
+use Rattle.std.proofs.Common.{arith, refl, sym, ap, subst, ◌∙◌}
 use Rattle.std.proofs.Common.{inl, inr, ℤ, pos, neg_ℤ, ◌+ℤ◌, ◌-ℤ◌, ◌*ℤ◌, ◌<ℤ◌, unsigned_abs, get_or-set_same, get_or-set_other, drop}
 use Rattle.std.specs.Prelude.{int_div}
 use Rattle.std.proofs.lemmas.Bool.{cases_eq}
@@ -192,6 +193,12 @@ pub record Adding (n scale : ℕ) (rows : List UnknownRow) (start : TableauRow) 
   pub normal : IsNormal place (length rows) left
   pub narrow : IsNarrow n sum
   pub value : plus_terms scale (unknown_rows n rows) (narrow_view sum) left ≡ plus_terms scale (unknown_rows n rows) start all
+
+-- a term's unknown is below the number that all are below
+pub term_inside : (low high : ℕ) (ts : List (ℕ × ℤ)) (i : ℕ) (d : ℕ × ℤ) → IsNormal low high ts → i < length ts → (get_or ts i d).0 < high
+term_inside low high [] i d k h = absurd (omega arith)
+term_inside low high (t ∷ ts) zero d k h = (let le = IsNormal-le (t.0 + 1) high ts k.2 in omega arith)
+term_inside low high (t ∷ ts) (suc i) d k h = term_inside (t.0 + 1) high ts i d k.2 (omega arith)
 
 -- the next term's unknown has a row
 pub add-inside : (n scale : ℕ) (rows : List UnknownRow) (start : TableauRow) (all ts : List (ℕ × ℤ)) (i : ℕ) (d : ℕ × ℤ) (sum : NarrowRow)

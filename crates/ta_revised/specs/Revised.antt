@@ -4,7 +4,7 @@ use Rattle.std.specs.List.{range_with_len}
 use Rattle.ta_dense.specs.Tableau.{Tableau, TableauRow}
 use Rattle.ta_dense.specs.Extending.{raised}
 use Rattle.ta_dense.specs.Inside.Padded.{zero_filled}
-use Rattle.ta_revised.specs.UnknownRows.{unit_row, unknown_rows, AreUnknownRows}
+use Rattle.ta_revised.specs.UnknownRows.{unit_row, unknown_rows, AreUnknownRows, ListsBasic}
 use Rattle.ta_revised.specs.declared.revised.RevisedDictionary.TheInside.{Inside}
 
 -- the rows of the unknowns, in their order, over the non-basic variables
@@ -16,6 +16,7 @@ pub record IsSoundRevised (d : Inside) : Type 0 where
   pub rows : AreUnknownRows (length d.non_basic.items) d.rows.items
   pub columns_fit : length d.non_basic.items < 2 ^ 32
   pub rows_fit : length d.rows.items < 2 ^ 32
+  pub basic : ListsBasic d.basic.items d.rows.items
 
 -- the rows of so many unknowns from a number on, each of which belongs to its own column
 abbrev pub unit_rows : ℕ → ℕ → ℕ → List TableauRow

@@ -1,8 +1,7 @@
 -- The rows of the unknowns: what they mean, what they keep, and what a pivot makes of one.
 use Rattle.std.specs.Prelude.{ℕ, ◌<◌, ◌≡◌, ◌⊎◌, List, pos, map, set, length, get_or, replicate, All}
 use Rattle.ta_dense.specs.Tableau.{TableauRow, no_row, merged, turned}
-use Rattle.ta_revised.specs.Narrow.{narrow_view, IsNarrow, MergesIn16}
-use Rattle.ta_revised.specs.declared.narrow_rows.NarrowRow.{NarrowRow}
+use Rattle.ta_revised.specs.Narrow.{narrow_view, IsNarrow}
 use Rattle.ta_revised.specs.declared.unknown_rows.UnknownRow.{UnknownRow}
 use Rattle.ta_revised.specs.declared.unknown_rows.UnknownRow.TheVariants.{Column, Basic}
 
@@ -26,13 +25,19 @@ IsUnknownRow columns (Basic r) = IsNarrow columns r
 abbrev pub AreUnknownRows : ℕ → List UnknownRow → Type 0
 AreUnknownRows columns xs = All (IsUnknownRow columns) xs
 
--- bounds show that it can be merged in 16 bits
-abbrev pub MayMerge : ℕ → NarrowRow → UnknownRow → Type 0
-MayMerge column chosen (Column v own) = Unit {0}
-MayMerge column chosen (Basic r) = MergesIn16 column chosen r
+-- whether the unknown belongs to a column
+abbrev pub IsColumn : UnknownRow → Type 0
+IsColumn (Column v column) = Unit {0}
+IsColumn (Basic r) = ⊥
 
-abbrev pub AllMayMerge : ℕ → NarrowRow → List UnknownRow → Type 0
-AllMayMerge column chosen xs = All (MayMerge column chosen) xs
+-- whether a number is in a list
+abbrev pub IsIn : List ℕ → ℕ → Type 0
+IsIn us u = (i : ℕ) × (i < length us) × (get_or us i 0 ≡ u)
+
+-- the list has unknowns alone, and among them each that doesn't belong to a column
+pub record ListsBasic (us : List ℕ) (xs : List UnknownRow) : Type 0 where
+  pub inside : All (λ u. u < length xs) us
+  pub others : (u : ℕ) (d : UnknownRow) → u < length xs → IsColumn (get_or xs u d) ⊎ IsIn us u
 
 -- a row after a pivot: the merged row; the turned row, if it was that of the unknown that enters; or the column's, if it is that of the unknown that leaves
 abbrev pub IsAfter : ℕ → ℕ → TableauRow → TableauRow → TableauRow → Type 0

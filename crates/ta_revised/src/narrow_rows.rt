@@ -2,8 +2,8 @@
 //!
 //! A merge makes `p*row - q*chosen`, so p times the row's bound plus q times that of the chosen row
 //! bounds the result, and becomes the new bound. It grows faster than the numbers, which are
-//! divided to lowest terms; where it no longer suffices it is taken anew from them (`tighten`). All
-//! rows are tested before any is changed (`all_may_merge`), so the loops over cells need no test.
+//! divided to lowest terms; where it no longer suffices it is taken anew from them (`tighten`). So
+//! one test of bounds stands before a loop over cells, which needs none.
 //! Rows in lowest terms are mostly divided by 2 to 5 and multiplied by 1 or 2: these have loops of
 //! their own, without divisions (narrow_cells.rt).
 #![tactic(auto)]
@@ -14,15 +14,14 @@ ghost use Rattle.ta_dense.specs.Tableau.{merged_by, divided, divisor_of, reduced
 ghost use Rattle.ta_dense.specs.Merge.{IsProper};
 ghost use Rattle.ta_dense.specs.Inside.Padded.{padded};
 ghost use Rattle.ta_revised.specs.Bounds.{IsBound};
-ghost use Rattle.ta_revised.specs.Narrow.{narrow_view, IsNarrow, MergesIn16};
+ghost use Rattle.ta_revised.specs.Narrow.{narrow_view, IsNarrow};
 
 use crate::narrow_cells::gcd_narrow;
 use crate::row_cells::RowCells;
 use std::alloc::{AllocError, Global};
 
 /// The row `denominator * basic = constant + sum of cells * non-basic`. A bound is a number that
-/// no absolute value of the row's numbers is above; it need not be one of them. `met` is the cell of
-/// the column that was tested last, which spares a merge to seek it again.
+/// no absolute value of the row's numbers is above; it need not be one of them.
 #[derive(Drop)]
 pub struct NarrowRow {
     pub basic: u32,
@@ -30,7 +29,6 @@ pub struct NarrowRow {
     pub constant: i16,
     pub cells: RowCells,
     pub bound: u16,
-    pub met: i16,
 }
 
 /// The greatest absolute value of the row's numbers.
@@ -52,7 +50,6 @@ pub(crate) fn tighten(row: &mut NarrowRow)
     requires { IsNarrow (length row.old.cells) row.old }
     ensures view { narrow_view row.new ≡ narrow_view row.old }
     ensures narrow { IsNarrow (length row.old.cells) row.new }
-    ensures met { row.new.met ≡ row.old.met }
     ensures least { (b : ℕ) → IsBound b (narrow_view row.old) → row.new.bound ≤ b }
 {
     row.bound = least_bound(row);
@@ -75,42 +72,35 @@ pub(crate) fn padded_narrow(
         constant: row.constant,
         cells: row.cells.padded(columns)?,
         bound: row.bound,
-        met: 0,
     })
 }
 
-// Whether `c` times the first bound and `a` times the second are less than 2^15 together.
-fn is_small(c: u16, first: u16, a: u16, second: u16) -> bool
-    requires c { c < 2 ^ 15 }
+// Whether `p` times the first bound and `q` times the second are less than 2^15 together.
+fn is_small(p: u16, first: u16, q: u16, second: u16) -> bool
+    requires p { p ≤ 2 ^ 15 }
     requires first { first < 2 ^ 15 }
-    requires a { a < 2 ^ 15 }
+    requires q { q ≤ 2 ^ 15 }
     requires second { second < 2 ^ 15 }
-    ensures { OnTrue result (c * first + a * second < 2 ^ 15) }
+    ensures { OnTrue result (p * first + q * second < 2 ^ 15) }
 {
-    c as u32 * first as u32 + a as u32 * (second as u32) < 1 << 15
+    p as u32 * first as u32 + q as u32 * (second as u32) < 1 << 15
 }
 
-/// Whether bounds show that the row can be merged in 16 bits. Where the row's bound doesn't, it is
-/// taken anew.
-pub(crate) fn merges(chosen: &NarrowRow, column: usize, row: &mut NarrowRow) -> bool
-    requires chosen { IsNarrow (length chosen.now.cells) chosen.now }
-    requires row { IsNarrow (length chosen.now.cells) row.old }
-    requires column { column < length chosen.now.cells }
+// Whether bounds show that `p` times the row minus `q` times the chosen row fits 16 bits. Where the
+// row's bound doesn't, it is taken anew.
+fn fits(p: i16, q: i16, chosen: &NarrowRow, row: &mut NarrowRow) -> bool
+    requires chosen { chosen.now.bound < 2 ^ 15 }
+    requires row { IsNarrow (length row.old.cells) row.old }
     ensures view { narrow_view row.new ≡ narrow_view row.old }
-    ensures narrow { IsNarrow (length chosen.now.cells) row.new }
-    ensures within { OnTrue result (MergesIn16 column chosen.now row.new) }
+    ensures narrow { IsNarrow (length row.old.cells) row.new }
+    ensures within { OnTrue result (unsigned_abs p * row.new.bound + unsigned_abs q * chosen.now.bound < 2 ^ 15) }
 {
-    row.met = row.cells.at(column);
-    let a = row.met.unsigned_abs();
-    if a == 0 {
-        return true;
-    }
-    let c = chosen.cells.at(column).unsigned_abs();
-    if is_small(c, row.bound, a, chosen.bound) {
+    let (p, q) = (p.unsigned_abs(), q.unsigned_abs());
+    if is_small(p, row.bound, q, chosen.bound) {
         return true;
     }
     tighten(row);
-    is_small(c, row.bound, a, chosen.bound)
+    is_small(p, row.bound, q, chosen.bound)
 }
 
 // `p` times the row minus `q` times the chosen row, with a bound of that.
@@ -194,28 +184,31 @@ fn narrow_factors(c: i16, a: i16) -> (i16, i16)
     (c / divisor, a / divisor)
 }
 
-/// Takes the entering variable out of a row.
+/// Takes the entering variable out of a row, where bounds show that 16 bits suffice.
 pub(crate) fn merge_narrow(
     alloc: Global,
     chosen: &NarrowRow,
     column: usize,
     row: &mut NarrowRow,
-) -> Result<(), AllocError>
+) -> Result<bool, AllocError>
     requires chosen { IsNarrow (length chosen.now.cells) chosen.now }
     requires row { IsNarrow (length chosen.now.cells) row.old }
     requires column { column < length chosen.now.cells }
     requires positive { pos 0 <ℤ cell_of (narrow_view chosen.now) column }
-    requires within { MergesIn16 column chosen.now row.old }
-    ensures value { IfOk result (λ done. narrow_view row.new ≡ merged column (narrow_view chosen.now) (narrow_view row.old)) }
-    ensures narrow { IfOk result (λ done. IsNarrow (length chosen.now.cells) row.new) }
+    ensures value { IfOk result (λ done. OnTrue done (narrow_view row.new ≡ merged column (narrow_view chosen.now) (narrow_view row.old))) }
+    ensures narrow { IfOk result (λ done. OnTrue done (IsNarrow (length chosen.now.cells) row.new)) }
 {
-    let a = row.met;
-    if a != 0 {
-        let (p, q) = narrow_factors(chosen.cells.at(column), a);
-        merge_narrow_by(alloc, p, q, column, chosen, row)?;
-        reduce_narrow(alloc, row)?;
+    let a = row.cells.at(column);
+    if a == 0 {
+        return Ok(true);
     }
-    Ok(())
+    let (p, q) = narrow_factors(chosen.cells.at(column), a);
+    if !fits(p, q, chosen, row) {
+        return Ok(false);
+    }
+    merge_narrow_by(alloc, p, q, column, chosen, row)?;
+    reduce_narrow(alloc, row)?;
+    Ok(true)
 }
 
 /// Solves the row for the entering variable.

@@ -15,7 +15,7 @@ ghost use Rattle.ta_revised.specs.UnknownRows.{AreAfter, AreUnknownRows, IsUnkno
 
 use crate::narrow_rows::{NarrowRow, least_bound, padded_narrow};
 use crate::slack::slack_row;
-use crate::unknown_rows::{UnknownRow, all_may_merge, copied, merge_rows};
+use crate::unknown_rows::{UnknownRow, basic_unknowns, copied, merge_rows};
 use crate::values::{least_negative, scale_of, values_of};
 use std::alloc::{AllocError, Global};
 use std::marker::Model;
@@ -25,11 +25,13 @@ use ta_linear::System;
 /// About how many bytes a row takes beside its cells.
 const ROW_BYTES: usize = 80;
 
-/// The rows of the unknowns of a system, in their order, over the nonbasic variables.
+/// The rows of the unknowns of a system, in their order, over the nonbasic variables; and which of
+/// the unknowns are basic.
 #[derive(Drop)]
 pub struct RevisedDictionary {
     non_basic: Vec<u32>,
     rows: Vec<UnknownRow>,
+    basic: Vec<u32>,
 }
 
 impl Model for RevisedDictionary {
@@ -111,7 +113,12 @@ impl RevisedDictionary {
         }
         let mut rows = Vec::with_capacity(alloc, unknowns as usize)?;
         push_units(&mut rows, 0, unknowns)?;
-        Ok(RevisedDictionary { non_basic, rows })
+        let basic = basic_unknowns(alloc, &rows)?;
+        Ok(RevisedDictionary {
+            non_basic,
+            rows,
+            basic,
+        })
     }
 
     /// The rows of a longer system, in which each new unknown belongs to a new column. It shares the
@@ -126,7 +133,12 @@ impl RevisedDictionary {
         let non_basic = raised_columns(alloc, &self.non_basic, old, unknowns - old)?;
         let mut rows = grown_rows(alloc, &self.rows, old as usize, unknowns as usize)?;
         push_units(&mut rows, old, unknowns)?;
-        Ok(RevisedDictionary { non_basic, rows })
+        let basic = basic_unknowns(alloc, &rows)?;
+        Ok(RevisedDictionary {
+            non_basic,
+            rows,
+            basic,
+        })
     }
 
     /// The variable of each column.
@@ -166,7 +178,7 @@ impl RevisedDictionary {
         ensures scale { IfSome result (λ scale. IsScale scale self.now.rows) }
         ensures small { IfSome result (λ scale. (u : ℕ) → u < length self.now.rows → IsBound (2 ^ 31) (row_of self.now u)) }
     {
-        scale_of(&self.rows, self.non_basic.len())
+        scale_of(&self.rows, &self.basic, self.non_basic.len())
     }
 
     /// The least variable of the system with a negative value where the nonbasic variables are 0.
@@ -182,7 +194,7 @@ impl RevisedDictionary {
         requires scale { IsScale scale self.now.rows }
         ensures { IfOk result (λ o. LeavingIs scale system.now self.now o) }
     {
-        let values = values_of(alloc, &self.rows, self.non_basic.len(), scale)?;
+        let values = values_of(alloc, &self.rows, &self.basic, self.non_basic.len(), scale)?;
         Ok(least_negative(system, &values, scale))
     }
 
@@ -224,8 +236,9 @@ impl RevisedDictionary {
         ensures found { IfSome result (EntersBy self.now.non_basic (narrow_view row.now)) }
         ensures none { IfNone result (NoneEntersBy self.now.non_basic (narrow_view row.now)) }
     {
+        let columns = self.non_basic.len().min(row.cells.stored());
         let mut least = None;
-        for column in 0..self.non_basic.len() as u32 {
+        for column in 0..columns as u32 {
             if row.cells.at(column as usize) > 0 {
                 least = match least {
                     Some(best) if self.non_basic[best as usize] < self.non_basic[column as usize] =>
@@ -254,14 +267,18 @@ impl RevisedDictionary {
         let RevisedDictionary {
             mut non_basic,
             mut rows,
+            basic: _,
         } = self;
         let mut chosen = chosen;
         chosen.bound = least_bound(&chosen);
-        if !all_may_merge(&mut rows, &chosen, column as usize) {
+        let Some(basic) = merge_rows(alloc, &mut rows, &chosen, column)? else {
             return Ok(None);
-        }
-        merge_rows(alloc, &mut rows, &chosen, column)?;
+        };
         non_basic[column as usize] = chosen.basic;
-        Ok(Some(RevisedDictionary { non_basic, rows }))
+        Ok(Some(RevisedDictionary {
+            non_basic,
+            rows,
+            basic,
+        }))
     }
 }

@@ -7,7 +7,7 @@
 //! says what this gains.
 #![tactic(auto)]
 
-ghost use Rattle.std.specs.Prelude.{◌≡◌, ◌<◌, ◌≤◌, ◌^◌, ℕ, pos, ◌<ℤ◌, ◌-ℤ◌, ◌*ℤ◌, unsigned_abs, neg_ℤ, int_div, length, map, set, get_or, IfOk, IfErr, IsTrue};
+ghost use Rattle.std.specs.Prelude.{◌≡◌, ◌<◌, ◌≤◌, ◌^◌, ℕ, pos, ◌<ℤ◌, ◌-ℤ◌, ◌*ℤ◌, unsigned_abs, neg_ℤ, int_div, length, map, set, get_or, replicate, IfOk, IfErr, IsTrue};
 ghost use Rattle.std.specs.Arc.{arc_value};
 ghost use Rattle.ta_dense.specs.Tableau.{combine, gcd_with};
 ghost use Rattle.ta_revised.specs.Bounds.{AllCombineIn16, AreBounded, AreSmall};
@@ -76,13 +76,16 @@ fn combine_longer(p: i16, q: i16, cells: &mut [i16], chosen: &[i16])
 }
 
 impl RowCells {
-    /// These cells, all of them stored.
-    pub fn of(alloc: Global, cells: Vec<i16>) -> Result<RowCells, AllocError>
-        ensures { IfOk result (λ r. r ≡ cells.items) }
+    /// Cells that are 0, so many of which are stored, as far as there are as many.
+    pub fn zeros(alloc: Global, stored: usize, columns: usize) -> Result<RowCells, AllocError>
+        ensures { IfOk result (λ r. r ≡ replicate columns (pos 0)) }
     {
-        let count = cells.len();
+        let cells = vec![in alloc; 0; stored.min(columns)]?;
         let stored = Arc::new(alloc, cells)?;
-        Ok(RowCells { stored, count })
+        Ok(RowCells {
+            stored,
+            count: columns,
+        })
     }
 
     /// The same cells for another row, with zeros up to a number of columns. It copies none.
@@ -106,6 +109,14 @@ impl RowCells {
             stored,
             count: self.count,
         })
+    }
+
+    /// So many of the first cells are stored, and those behind them are 0.
+    pub fn stored(&self) -> usize
+        ensures few { result ≤ length self.now }
+        ensures behind { (j : ℕ) → result ≤ j → get_or self.now j (pos 0) ≡ pos 0 }
+    {
+        self.stored.len()
     }
 
     /// About how many bytes the stored cells take, if no other has them.

@@ -16,7 +16,7 @@ ghost use Rattle.ta_revised.specs.UnknownRows.{AreUnknownRows, IsUnknownRow, unk
 
 use crate::narrow_rows::{NarrowRow, least_bound, reduce_narrow, tighten};
 use crate::row_cells::RowCells;
-use crate::unknown_rows::UnknownRow;
+use crate::unknown_rows::{UnknownRow, stored_of};
 use std::alloc::{AllocError, Global};
 use ta_linear::Row;
 
@@ -39,10 +39,23 @@ fn scaled(number: i128, scale: u32) -> Option<i16>
     Some(product as i16)
 }
 
-// The scale times a constant, as the row of a slack, where it fits 16 bits.
+// So many cells of the terms' unknowns are stored at most.
+fn most_stored(rows: &[UnknownRow], terms: &[(u32, i128)]) -> usize
+    requires { IsNormal 0 (length rows.now) terms.now }
+{
+    let mut most = 0;
+    for &(unknown, _) in terms {
+        most = most.max(stored_of(&rows[unknown as usize]));
+    }
+    most
+}
+
+// The scale times a constant, as the row of a slack, where it fits 16 bits. So many of its cells are
+// stored at once.
 fn first_sum(
     alloc: Global,
     constant: i128,
+    stored: usize,
     columns: usize,
     slack: u32,
     scale: u32,
@@ -55,14 +68,12 @@ fn first_sum(
     let Some(constant) = scaled(constant, scale) else {
         return Ok(None);
     };
-    let none = RowCells::of(alloc, Vec::new(alloc))?;
     Ok(Some(NarrowRow {
         basic: slack,
         denominator: scale as i16,
         constant,
-        cells: none.padded(columns)?,
+        cells: RowCells::zeros(alloc, stored, columns)?,
         bound: (scale as u16).max(constant.unsigned_abs()),
-        met: 0,
     }))
 }
 
@@ -218,10 +229,12 @@ pub(crate) fn slack_row(
     ensures value { IfOk result (λ o. IfSome o (λ r. narrow_view r ≡ slack_row_over scale columns (unknown_rows columns rows.now) slack row.now)) }
     ensures narrow { IfOk result (λ o. IfSome o (λ r. IsNarrow columns r)) }
 {
-    let Some(mut sum) = first_sum(alloc, row.form.constant, columns, slack, scale)? else {
+    let terms = row.form.terms.as_slice();
+    let stored = most_stored(rows, terms);
+    let Some(mut sum) = first_sum(alloc, row.form.constant, stored, columns, slack, scale)? else {
         return Ok(None);
     };
-    if !add_terms(alloc, &mut sum, rows, row.form.terms.as_slice(), scale)? {
+    if !add_terms(alloc, &mut sum, rows, terms, scale)? {
         return Ok(None);
     }
     reduce_narrow(alloc, &mut sum)?;

@@ -1,13 +1,13 @@
 //! The rows of the unknowns, and what a pivot makes of them.
 #![tactic(auto)]
 
-ghost use Rattle.std.specs.Prelude.{◌≡◌, ◌<◌, pos, ◌<ℤ◌, length, IfOk};
+ghost use Rattle.std.specs.Prelude.{◌≡◌, ◌<◌, ◌^◌, ◌++◌, ◌∷◌, [], ◌⊎◌, pos, ◌<ℤ◌, length, IfOk, IfSome};
 ghost use Rattle.std.specs.Bool.{OnTrue};
 ghost use Rattle.ta_dense.specs.Tableau.{cell_of, turned};
 ghost use Rattle.ta_revised.specs.Narrow.{narrow_view, IsNarrow};
-ghost use Rattle.ta_revised.specs.UnknownRows.{AllMayMerge, AreAfter, AreUnknownRows, IsAfter, IsUnknownRow, MayMerge, unknown_row, unknown_rows};
+ghost use Rattle.ta_revised.specs.UnknownRows.{AreAfter, AreUnknownRows, IsAfter, IsColumn, IsUnknownRow, ListsBasic, unknown_row, unknown_rows};
 
-use crate::narrow_rows::{NarrowRow, merge_narrow, merges, turn_narrow};
+use crate::narrow_rows::{NarrowRow, merge_narrow, turn_narrow};
 use std::alloc::{AllocError, Global};
 
 /// The row of an unknown.
@@ -19,37 +19,34 @@ pub(crate) enum UnknownRow {
     Basic(NarrowRow),
 }
 
-// Whether bounds show that the row can be merged in 16 bits. Where the row's bound doesn't, it is
-// taken anew.
-fn may_merge(chosen: &NarrowRow, column: usize, row: &mut UnknownRow) -> bool
-    requires chosen { IsNarrow (length chosen.now.cells) chosen.now }
-    requires row { IsUnknownRow (length chosen.now.cells) row.old }
-    requires column { column < length chosen.now.cells }
-    ensures view { unknown_row (length chosen.now.cells) row.new ≡ unknown_row (length chosen.now.cells) row.old }
-    ensures row { IsUnknownRow (length chosen.now.cells) row.new }
-    ensures within { OnTrue result (MayMerge column chosen.now row.new) }
-{
+/// So many of the row's first cells are stored, or have to be.
+pub(crate) fn stored_of(row: &UnknownRow) -> usize {
     match row {
-        UnknownRow::Column { .. } => true,
-        UnknownRow::Basic(basic) => merges(chosen, column, basic),
+        UnknownRow::Column { column, .. } => *column as usize + 1,
+        UnknownRow::Basic(basic) => basic.cells.stored(),
     }
 }
 
-// Whether bounds show that each row can be merged in 16 bits.
-pub(crate) fn all_may_merge(rows: &mut [UnknownRow], chosen: &NarrowRow, column: usize) -> bool
-    requires chosen { IsNarrow (length chosen.now.cells) chosen.now }
-    requires rows { AreUnknownRows (length chosen.now.cells) rows.old }
-    requires column { column < length chosen.now.cells }
-    ensures views { unknown_rows (length chosen.now.cells) rows.new ≡ unknown_rows (length chosen.now.cells) rows.old }
-    ensures rows { AreUnknownRows (length chosen.now.cells) rows.new }
-    ensures within { OnTrue result (AllMayMerge column chosen.now rows.new) }
+// Adds an unknown to a list, unless it belongs to a column.
+fn list_basic(list: &mut Vec<u32>, unknown: u32, row: &UnknownRow) -> Result<(), AllocError>
+    ensures { IfOk result (λ done. ((list.new.items ≡ list.old.items) × IsColumn row.now) ⊎ (list.new.items ≡ list.old.items ++ unknown ∷ [])) }
 {
-    for at in 0..rows.len() {
-        if !may_merge(chosen, column, &mut rows[at]) {
-            return false;
-        }
+    if let UnknownRow::Basic(_) = row {
+        list.push(unknown)?;
     }
-    true
+    Ok(())
+}
+
+/// The unknowns that don't belong to columns.
+pub(crate) fn basic_unknowns(alloc: Global, rows: &[UnknownRow]) -> Result<Vec<u32>, AllocError>
+    requires { length rows.now < 2 ^ 32 }
+    ensures { IfOk result (λ v. ListsBasic v.items rows.now) }
+{
+    let mut list = Vec::with_capacity(alloc, rows.len())?;
+    for at in 0..rows.len() {
+        list_basic(&mut list, at as u32, &rows[at])?;
+    }
+    Ok(list)
 }
 
 /// The row for a variable again. It shares the row's cells.
@@ -63,7 +60,6 @@ pub(crate) fn copied(row: &NarrowRow) -> Result<NarrowRow, AllocError>
         constant: row.constant,
         cells: row.cells.shared()?,
         bound: row.bound,
-        met: 0,
     })
 }
 
@@ -85,22 +81,21 @@ fn turned_row(
     Ok(UnknownRow::Basic(row))
 }
 
-// Takes the variable that enters out of a row. The unknown that enters gets the chosen row, and the
-// one that leaves gets the column.
+// Takes the variable that enters out of a row, where bounds show that 16 bits suffice. The unknown
+// that enters gets the chosen row, and the one that leaves gets the column.
 fn merge_row(
     alloc: Global,
     chosen: &NarrowRow,
     column: u32,
     row: &mut UnknownRow,
-) -> Result<(), AllocError>
+) -> Result<bool, AllocError>
     requires chosen { IsNarrow (length chosen.now.cells) chosen.now }
     requires row { IsUnknownRow (length chosen.now.cells) row.old }
     requires column { column < length chosen.now.cells }
     requires positive { pos 0 <ℤ cell_of (narrow_view chosen.now) column }
-    requires within { MayMerge column chosen.now row.old }
-    ensures after { IfOk result (λ done. IsAfter (length chosen.now.cells) column (narrow_view chosen.now) (unknown_row (length chosen.now.cells) row.old)
-        (unknown_row (length chosen.now.cells) row.new)) }
-    ensures row { IfOk result (λ done. IsUnknownRow (length chosen.now.cells) row.new) }
+    ensures after { IfOk result (λ done. OnTrue done (IsAfter (length chosen.now.cells) column (narrow_view chosen.now)
+        (unknown_row (length chosen.now.cells) row.old) (unknown_row (length chosen.now.cells) row.new))) }
+    ensures row { IfOk result (λ done. OnTrue done (IsUnknownRow (length chosen.now.cells) row.new)) }
 {
     let next = match row {
         UnknownRow::Column {
@@ -108,7 +103,7 @@ fn merge_row(
             column: own,
         } => {
             if *own != column {
-                return Ok(());
+                return Ok(true);
             }
             turned_row(alloc, chosen, column as usize, *unknown)?
         }
@@ -123,27 +118,33 @@ fn merge_row(
         }
     };
     *row = next;
-    Ok(())
+    Ok(true)
 }
 
-// Takes the variable that enters out of each row.
+// Takes the variable that enters out of each row, where bounds show that 16 bits suffice. It lists
+// the unknowns that don't belong to columns then.
 pub(crate) fn merge_rows(
     alloc: Global,
     rows: &mut [UnknownRow],
     chosen: &NarrowRow,
     column: u32,
-) -> Result<(), AllocError>
+) -> Result<Option<Vec<u32>>, AllocError>
+    requires room { length rows.old < 2 ^ 32 }
     requires chosen { IsNarrow (length chosen.now.cells) chosen.now }
     requires rows { AreUnknownRows (length chosen.now.cells) rows.old }
     requires column { column < length chosen.now.cells }
     requires positive { pos 0 <ℤ cell_of (narrow_view chosen.now) column }
-    requires within { AllMayMerge column chosen.now rows.old }
-    ensures after { IfOk result (λ done. AreAfter (length chosen.now.cells) column (narrow_view chosen.now) (unknown_rows (length chosen.now.cells) rows.old)
-        (unknown_rows (length chosen.now.cells) rows.new)) }
-    ensures rows { IfOk result (λ done. AreUnknownRows (length chosen.now.cells) rows.new) }
+    ensures after { IfOk result (λ o. IfSome o (λ v. AreAfter (length chosen.now.cells) column (narrow_view chosen.now)
+        (unknown_rows (length chosen.now.cells) rows.old) (unknown_rows (length chosen.now.cells) rows.new))) }
+    ensures rows { IfOk result (λ o. IfSome o (λ v. AreUnknownRows (length chosen.now.cells) rows.new)) }
+    ensures basic { IfOk result (λ o. IfSome o (λ v. ListsBasic v.items rows.new)) }
 {
+    let mut basic = Vec::with_capacity(alloc, rows.len())?;
     for at in 0..rows.len() {
-        merge_row(alloc, chosen, column, &mut rows[at])?;
+        if !merge_row(alloc, chosen, column, &mut rows[at])? {
+            return Ok(None);
+        }
+        list_basic(&mut basic, at as u32, &rows[at])?;
     }
-    Ok(())
+    Ok(Some(basic))
 }

@@ -9,11 +9,12 @@ ghost use Rattle.ta_dense.specs.Tableau.{no_row};
 ghost use Rattle.ta_revised.specs.Modest.{AreModestRows, IsModestRow};
 ghost use Rattle.ta_revised.specs.Negative.{IsLeastNegative, NoneIsNegative, RowsHold, UnknownsHold, row_value};
 ghost use Rattle.ta_revised.specs.Scale.{AreValues, IsScale};
-ghost use Rattle.ta_revised.specs.UnknownRows.{AreUnknownRows, IsUnknownRow, unknown_row, unknown_rows};
+ghost use Rattle.ta_revised.specs.UnknownRows.{AreUnknownRows, IsUnknownRow, ListsBasic, unknown_row, unknown_rows};
 
+use crate::narrow_cells::gcd_narrow;
 use crate::unknown_rows::UnknownRow;
 use std::alloc::{AllocError, Global};
-use ta_linear::{Row, System, gcd_natural};
+use ta_linear::{Row, System};
 
 /// Scales are below this.
 const LIMIT: u32 = 1 << 15;
@@ -35,7 +36,7 @@ fn common_multiple(scale: u32, denominator: u32) -> Option<u32>
     if scale % denominator == 0 {
         return Some(scale);
     }
-    let divisor = gcd_natural(scale as u128, denominator as u128) as u32;
+    let divisor = gcd_narrow(scale as u16, denominator as u16) as u32;
     let multiple = (scale / divisor) as u64 * denominator as u64;
     if multiple >= LIMIT as u64 {
         return None;
@@ -58,12 +59,14 @@ fn denominator_of(row: &UnknownRow, columns: usize) -> u32
 }
 
 /// A common multiple of the rows' denominators, if it isn't too great.
-pub(crate) fn scale_of(rows: &[UnknownRow], columns: usize) -> Option<u32>
-    requires { AreUnknownRows columns rows.now }
+pub(crate) fn scale_of(rows: &[UnknownRow], basic: &[u32], columns: usize) -> Option<u32>
+    requires rows { AreUnknownRows columns rows.now }
+    requires basic { ListsBasic basic.now rows.now }
     ensures { IfSome result (λ scale. IsScale scale (unknown_rows columns rows.now)) }
 {
     let mut scale = 1;
-    for row in rows {
+    for &unknown in basic {
+        let row = &rows[unknown as usize];
         scale = common_multiple(scale, denominator_of(row, columns))?;
     }
     Some(scale)
@@ -81,6 +84,9 @@ fn value_of(row: &UnknownRow, columns: usize, scale: u32) -> i64
     match row {
         UnknownRow::Column { .. } => 0,
         UnknownRow::Basic(basic) => {
+            if basic.constant == 0 {
+                return 0;
+            }
             (scale / basic.denominator.unsigned_abs() as u32) as i64 * basic.constant as i64
         }
     }
@@ -90,16 +96,18 @@ fn value_of(row: &UnknownRow, columns: usize, scale: u32) -> i64
 pub(crate) fn values_of(
     alloc: Global,
     rows: &[UnknownRow],
+    basic: &[u32],
     columns: usize,
     scale: u32,
 ) -> Result<Vec<i64>, AllocError>
     requires rows { AreUnknownRows columns rows.now }
+    requires basic { ListsBasic basic.now rows.now }
     requires scale { IsScale scale (unknown_rows columns rows.now) }
     ensures { IfOk result (λ v. AreValues scale (unknown_rows columns rows.now) v.items) }
 {
-    let mut values = Vec::with_capacity(alloc, rows.len())?;
-    for row in rows {
-        values.push(value_of(row, columns, scale))?;
+    let mut values = vec![in alloc; 0; rows.len()]?;
+    for &unknown in basic {
+        values[unknown as usize] = value_of(&rows[unknown as usize], columns, scale);
     }
     Ok(values)
 }

@@ -2,6 +2,7 @@ use Rattle.std.proofs.Common.{◌≡◌, ◌≤◌, ℕ, length, get_or}
 use Rattle.ta_revised.specs.Narrow.{narrow_view}
 use Rattle.ta_revised.specs.UnknownRows.{AreUnknownRows, unknown_rows}
 use Rattle.ta_revised.specs.declared.unknown_rows.UnknownRow.{UnknownRow}
+use Rattle.ta_revised.proofs.BasicLists.{ListedBelow}
 use Rattle.ta_revised.proofs.UnknownRowSteps.{AfterBelow}
 use Rattle.ta_revised.proofs.unknown_rows.merge_rows.Given as goal
 
@@ -11,4 +12,5 @@ invariant-loop-at l = record {
       (unknown_rows (length l.chosen.cells) l.rows) l.at;
   rest : (k : ℕ) (d : UnknownRow) → l.at ≤ k → get_or l.rows k d ≡ get_or l.initial.rows k d;
   rows : AreUnknownRows (length l.chosen.cells) l.rows;
+  basic : ListedBelow l.basic.items l.rows l.at;
 }

@@ -13,16 +13,16 @@ returns-then-scale-denominator-eq0-clause-second c = dvd_of_mod-eq-zero c.args.d
 
 pub overflow_cast-divisor : goal.overflow_cast-divisor
 overflow_cast-divisor c =
-    let divides = c.gcd_natural-divisor.ensures.value in
+    let divides = c.gcd_narrow-divisor.ensures in
     omega (arith, le_of_dvd c.requires.scale divides.0, c.requires.few)
 
 pub nonzero_div-multiple : goal.nonzero_div-multiple
-nonzero_div-multiple c = divisor_above _ c.args.scale c.requires.scale c.gcd_natural-divisor.ensures.value.0
+nonzero_div-multiple c = divisor_above _ c.args.scale c.requires.scale c.gcd_narrow-divisor.ensures.0
 
 pub returns-clause-first : goal.returns-clause-first
 returns-clause-first c =
-    let divides = c.gcd_natural-divisor.ensures.value in
+    let divides = c.gcd_narrow-divisor.ensures in
     divides_multiple c.args.scale c.args.denominator _ divides.0 divides.1
 
 pub returns-clause-positive : goal.returns-clause-positive
-returns-clause-positive c = mul-pos (quotient_above _ c.args.scale c.requires.scale c.gcd_natural-divisor.ensures.value.0) c.requires.positive
+returns-clause-positive c = mul-pos (quotient_above _ c.args.scale c.requires.scale c.gcd_narrow-divisor.ensures.0) c.requires.positive

@@ -34,13 +34,13 @@ fits_in c = fits_signed_from_abs w64 _ (omega (arith, small c))
 pub overflow_mul-result : goal.overflow_mul-result
 overflow_mul-result c = rw (computed c) (fits_in c)
 
-pub returns-in-Basic-clause-value : goal.returns-in-Basic-clause-value
-returns-in-Basic-clause-value c =
+pub returns-else-basic-eq0-clause-value : goal.returns-else-basic-eq0-clause-value
+returns-else-basic-eq0-clause-value c =
     let fits : FitsSigned w16 c.in-Basic.basic.denominator = search rules in
     let divisor = simp to_z-of_z at c.unsigned_abs.ensures.value in
     let multiple = subst (λ (r : UnknownRow). unsigned_abs (unknown_row c.args.columns r).denominator ∣ c.args.scale) c.in-Basic.is c.requires.multiple in
     rw (computed c, to_z-of_z w64 _ (fits_in c), c.in-Basic.is, divisor)
     (scaled_value c.args.scale c.in-Basic.basic.denominator c.in-Basic.basic.constant (narrow c).proper.positive multiple)
 
-pub returns-in-Basic-clause-small : goal.returns-in-Basic-clause-small
-returns-in-Basic-clause-small c = rw (computed c, to_z-of_z w64 _ (fits_in c)) (small c)
+pub returns-else-basic-eq0-clause-small : goal.returns-else-basic-eq0-clause-small
+returns-else-basic-eq0-clause-small c = rw (computed c, to_z-of_z w64 _ (fits_in c)) (small c)

@@ -4,10 +4,11 @@ use Rattle.std.proofs.lemmas.List.FromFn.{length-range_with_len}
 use Rattle.ta_base.proofs.Lists.{range_more}
 use Rattle.ta_dense.proofs.SlackRows.{tableau_same}
 use Rattle.ta_revised.specs.Revised.{unit_rows}
-use Rattle.ta_revised.specs.UnknownRows.{AreUnknownRows, unknown_rows}
+use Rattle.ta_revised.specs.UnknownRows.{AreUnknownRows, ListsBasic, unknown_rows}
 use Rattle.ta_revised.specs.declared.unknown_rows.UnknownRow.{UnknownRow}
 use Rattle.ta_revised.proofs.UnknownRowSteps.{length_pushed}
 use Rattle.ta_revised.proofs.revised.RevisedDictionary.first.Goals as goal
+use Rattle.ta_revised.proofs.revised.RevisedDictionary.first.Goals.{In_ok-push_units}
 
 pub loop-unknown-preserved : goal.loop-unknown-preserved
 loop-unknown-preserved c =
@@ -17,17 +18,28 @@ loop-unknown-preserved c =
     c.in_ok-push.ensures.items ∙ ap (λ (xs : List ℕ). xs ++ n ∷ []) c.loop-unknown.invariant ∙ ap (λ (x : ℕ). range_with_len 0 n ++ x ∷ []) (sym z)
     ∙ sym (range_more 0 n) ∙ ap (range_with_len 0) e
 
+-- how many rows there are
+counted : (c : In_ok-push_units) → length c.push_units.new.rows.items ≡ c.args.unknowns
+counted c =
+    let none = ap (λ (xs : List UnknownRow). length xs) c.in_ok-rows.ensures.items in
+    let count = length_pushed c.args.unknowns 0 c.in_ok-rows.rows.items c.push_units.new.rows.items c.in_ok-push_units.ensures.value in
+    omega arith
+
+pub basic_unknowns-requires : goal.basic_unknowns-requires
+basic_unknowns-requires c =
+    let count = counted (goal.at.basic_unknowns-requires c).In_ok-push_units in
+    rw c.deref.ensures.value (omega arith)
+
 pub invariant_of-result : goal.invariant_of-result
 invariant_of-result c =
-    let u = c.args.unknowns in
     let names = ap (λ (xs : List ℕ). length xs) c.loop-unknown.invariant ∙ length-range_with_len 0 c.loop-unknown.unknown in
     let long : length c.loop-unknown.non_basic.items ≡ c.args.unknowns = omega arith in
-    let none = ap (λ (xs : List UnknownRow). length xs) c.in_ok-rows.ensures.items in
-    let count = length_pushed u 0 c.in_ok-rows.rows.items c.push_units.new.rows.items c.in_ok-push_units.ensures.value in
+    let count = counted (goal.at.invariant_of-result c).In_ok-push_units in
     record {
       rows = subst (λ (m : ℕ). AreUnknownRows m c.push_units.new.rows.items) (sym long) c.in_ok-push_units.ensures.rows;
       columns_fit = omega arith;
       rows_fit = omega arith;
+      basic = subst (ListsBasic c.in_ok-basic.basic.items) c.deref.ensures.value c.in_ok-basic.ensures;
     }
 
 pub returns : goal.returns

@@ -6,7 +6,7 @@ use Rattle.ta_dense.specs.Extending.{raised}
 use Rattle.std.specs.List.{range_with_len}
 use Rattle.ta_dense.proofs.ExtendFacts.{names_long}
 use Rattle.ta_revised.specs.Revised.{grown}
-use Rattle.ta_revised.specs.UnknownRows.{AreUnknownRows, unknown_rows, unknown_row}
+use Rattle.ta_revised.specs.UnknownRows.{AreUnknownRows, ListsBasic, unknown_rows, unknown_row}
 use Rattle.ta_revised.specs.declared.unknown_rows.UnknownRow.{UnknownRow}
 use Rattle.ta_revised.proofs.GrownRows.{grown_is}
 use Rattle.ta_revised.proofs.UnknownRowSteps.{length_pushed}
@@ -34,24 +34,36 @@ filled : (c : In_ok-push_units) → unknown_rows c.args.unknowns c.in_ok-rows.ro
 filled c = c.in_ok-rows.ensures.value ∙ ap (λ (xs : List UnknownRow). map (zero_filled (c.args.unknowns - c.len-old.result)) (unknown_rows c.len-old.result xs))
     c.deref-2.ensures.value
 
-pub invariant_of-result : goal.invariant_of-result
-invariant_of-result c =
-    let at = goal.at.invariant_of-result c in
+-- how many rows there are
+counted : (c : In_ok-push_units) → length c.push_units.new.rows.items ≡ c.args.unknowns
+counted c =
     let u = c.args.unknowns in
     let old = c.len-old.result in
-    let wide = long at.In_ok-push_units in
     let count = length_pushed u old c.in_ok-rows.rows.items c.push_units.new.rows.items c.in_ok-push_units.ensures.value in
-    let l1 = ap (λ (rs : List TableauRow). length rs) (filled at.In_ok-push_units) in
+    let l1 = ap (λ (rs : List TableauRow). length rs) (filled c) in
     let l2 = length-map c.in_ok-rows.rows.items (unknown_row u) in
     let l3 = length-map (unknown_rows old c.self.inside.rows.items) (zero_filled (u - old)) in
     let l4 = length-map c.self.inside.rows.items (unknown_row old) in
     let l5 = length-map c.self.inside.rows.items (unknown_row (length c.self.inside.non_basic.items)) in
     let v1 = ap (λ (t : Tableau). length t.non_basic) c.self.view_is in
     let v2 = ap (λ (t : Tableau). length t.rows) c.self.view_is in
+    omega arith
+
+pub basic_unknowns-requires : goal.basic_unknowns-requires
+basic_unknowns-requires c =
+    let count = counted (goal.at.basic_unknowns-requires c).In_ok-push_units in
+    rw c.deref-3.ensures.value (omega arith)
+
+pub invariant_of-result : goal.invariant_of-result
+invariant_of-result c =
+    let at = goal.at.invariant_of-result c in
+    let wide = long at.In_ok-push_units in
+    let count = counted at.In_ok-push_units in
     record {
       rows = subst (λ (m : ℕ). AreUnknownRows m c.push_units.new.rows.items) (sym wide) c.in_ok-push_units.ensures.rows;
       columns_fit = omega arith;
       rows_fit = omega arith;
+      basic = subst (ListsBasic c.in_ok-basic.basic.items) c.deref-3.ensures.value c.in_ok-basic.ensures;
     }
 
 pub returns : goal.returns

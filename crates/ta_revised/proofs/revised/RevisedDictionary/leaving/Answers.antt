@@ -17,7 +17,7 @@ returns c =
     let rows = rows_are c.self.inside c.args.self.now _ _ c.self.view_is (c.len.ensures ∙ len) c.deref.ensures.value in
     let least = c.least_negative.ensures in
     record {
-      values = c.deref-2.result.now;
-      are = rw c.deref-2.ensures.value (subst (λ (rs : List TableauRow). AreValues c.args.scale rs c.in_ok-values.values.items) rows c.in_ok-values.ensures);
-      least = least_is c.args.scale c.args.system.now c.deref-2.result.now c.least_negative.result least.found least.none;
+      values = c.deref-3.result.now;
+      are = rw c.deref-3.ensures.value (subst (λ (rs : List TableauRow). AreValues c.args.scale rs c.in_ok-values.values.items) rows c.in_ok-values.ensures);
+      least = least_is c.args.scale c.args.system.now c.deref-3.result.now c.least_negative.result least.found least.none;
     }

@@ -14,10 +14,8 @@ returns-clause-rows c =
     let same : unknown_rows (length c.self.inside.non_basic.items) c.self.inside.rows.items ≡ c.args.self.rows = ap (λ (t : Tableau). t.rows) c.self.view_is in
     let view = ap (λ (n : ℕ). unknown_rows n c.self.inside.rows.items) (sym columns) ∙ same in
     let n0 = c.deref_mut.ensures.len in
-    let n2 = c.deref_mut-2.ensures.len in
-    let l1 : length c.all_may_merge.new.rows ≡ c.self.inside.rows.len = omega arith in
-    let l2 : length c.merge_rows.new.rows ≡ c.self.inside.rows.len = omega arith in
+    let l : length c.merge_rows.new.rows ≡ c.self.inside.rows.len = omega arith in
     after_pivot (length c.args.self.non_basic) (length c.args.chosen.cells) (length (set names c.args.column c.args.chosen.basic)) c.args.column
-    c.self.inside.rows.len (narrow_view c.args.chosen) c.args.self.rows inside c.deref_mut.result.now c.all_may_merge.new.rows c.deref_mut-2.result.now
-    c.merge_rows.new.rows _ _ c.requires.chosen.proper.long (length-set names c.args.column c.args.chosen.basic ∙ columns) view c.deref_mut.ensures.value
-    c.if-not-all_may_merge.ensures.views c.deref_mut-2.ensures.value l1 l2 c.in_ok-merge_rows.ensures.after
+    c.self.inside.rows.len (narrow_view c.args.chosen) c.args.self.rows inside c.deref_mut.result.now c.merge_rows.new.rows _
+    c.requires.chosen.proper.long (length-set names c.args.column c.args.chosen.basic ∙ columns) view c.deref_mut.ensures.value l
+    (rw c.in-Some.is at c.in_ok-basic.ensures.after)
