@@ -1,7 +1,7 @@
 //! A common scale of the unknowns' rows, the unknowns' values over it, and the variable that leaves.
 #![tactic(auto)]
 
-ghost use Rattle.std.specs.Prelude.{◌≡◌, ◌<◌, ◌≤◌, ◌^◌, ◌<ℤ◌, ◌*ℤ◌, ℕ, pos, length, get_or, slice_get, unsigned_abs, IfOk, IfSome, IfNone, IsSomeAnd};
+ghost use Rattle.std.specs.Prelude.{◌≡◌, ◌<◌, ◌≤◌, ◌/◌, ◌^◌, ◌<ℤ◌, ◌*ℤ◌, ℕ, pos, length, get_or, slice_get, unsigned_abs, IfOk, IfSome, IfNone, IsSomeAnd};
 ghost use Rattle.std.specs.Int.{◌∣◌};
 ghost use Rattle.ta_linear.specs.Terms.{IsNormal};
 ghost use Rattle.ta_dense.specs.Slack.{variables};
@@ -31,6 +31,9 @@ fn common_multiple(scale: u32, denominator: u32) -> Option<u32>
     ensures few { IfSome result (λ m. m < 2 ^ 15) }
 {
     if denominator == 1 {
+        return Some(scale);
+    }
+    if scale == denominator {
         return Some(scale);
     }
     if scale % denominator == 0 {
@@ -72,6 +75,18 @@ pub(crate) fn scale_of(rows: &[UnknownRow], basic: &[u32], columns: usize) -> Op
     Some(scale)
 }
 
+// The quotient by a denominator, which is often 1.
+fn quotient(scale: u32, denominator: u32) -> u32
+    requires { 0 < denominator }
+    ensures { result ≡ scale / denominator }
+{
+    if denominator == 1 {
+        scale
+    } else {
+        scale / denominator
+    }
+}
+
 // The value of a row's unknown, times the scale.
 fn value_of(row: &UnknownRow, columns: usize, scale: u32) -> i64
     requires row { IsUnknownRow columns row.now }
@@ -87,7 +102,8 @@ fn value_of(row: &UnknownRow, columns: usize, scale: u32) -> i64
             if basic.constant == 0 {
                 return 0;
             }
-            (scale / basic.denominator.unsigned_abs() as u32) as i64 * basic.constant as i64
+            let factor = quotient(scale, basic.denominator.unsigned_abs() as u32);
+            factor as i64 * basic.constant as i64
         }
     }
 }

@@ -1,14 +1,14 @@
 -- fractions in lowest terms, and their common denominators
-use Rattle.std.proofs.Common.{◌≡◌, ◌∙◌, ℕ, zero, suc, ◌+◌, ◌*◌, ◌/◌, ◌%◌, ◌<◌, ◌≤◌, ◌^◌, ℤ, pos, ◌*ℤ◌, ◌<ℤ◌, List, [], ◌∷◌, ◌++◌, map, Bool, true, false}
-use Rattle.std.proofs.Common.{Option, Some, None, cond, ◌&&◌, arith, ap, refl, sym, subst, unsigned_abs}
+use Rattle.std.proofs.Common.{◌≡◌, ◌∙◌, ℕ, ◌+◌, ◌/◌, ◌%◌, ◌<◌, ◌≤◌, ℤ, List, [], ◌∷◌, ◌++◌, Bool, true, false}
+use Rattle.std.proofs.Common.{Option, Some, None, cond, ◌&&◌, arith, ap, refl, sym}
 use Rattle.std.proofs.Common.{append-nil, append_assoc, drop, get_or, length}
 use Rattle.std.proofs.lemmas.List.{drop_all, drop_more, length-map}
 use Rattle.ta_linear.specs.Numbers.{InRange}
 use Rattle.ta_moments.specs.Questions.{fits}
-use Rattle.std.specs.Int.{IsGcd, ◌∣◌}
+use Rattle.std.specs.Int.{IsGcd}
 use Rattle.std.specs.List.{list_all}
-use Rattle.std.proofs.lemmas.Int.{ints}
-use Rattle.std.proofs.lemmas.Nat.Gcd.{IsGcd-from_mod, le_of_dvd}
+use Rattle.std.proofs.Math.Nat.{one-dvd}
+use Rattle.std.proofs.lemmas.Nat.Gcd.{IsGcd-from_mod, dvd_refl, le_of_dvd}
 use Rattle.ta_linear.proofs.GcdLemmas.{gcd_of_is}
 use Rattle.ta_linear.specs.Gcd.{gcd_of}
 use Rattle.ta_moments.specs.Vertices.{PositiveDenominators, common_denominator, lowest_denominator, multiple_of, number_over, numbers_over}
@@ -26,6 +26,17 @@ divisor_some t b h = (over_common t b h).1
 
 pub quotient_some : (t b : ℕ) → 0 < b → 0 < b / gcd_of t b
 quotient_some t b h = (over_common t b h).2
+
+-- with 1 a number has nothing but 1 in common
+pub divisor_of_one : (n : ℕ) → gcd_of n 1 ≡ 1
+divisor_of_one n = sym (gcd_of_is n 1 1 (one-dvd n, dvd_refl 1, λ d p q. q))
+
+-- so a denominator of 1 is the lowest one, and changes no multiple
+pub lowest_of_one : (t b : ℕ) → b ≡ 1 → 1 ≡ b / gcd_of t b
+lowest_of_one t b e = rw (e, divisor_of_one t) refl
+
+pub multiple_by_one : (m n : ℕ) → n ≡ 1 → m ≡ multiple_of m n
+multiple_by_one m n e = rw (e, divisor_of_one m) (omega arith)
 
 -- each denominator is positive
 pub all_positive : (fs : List Fraction) → PositiveDenominators (parts_of fs)

@@ -28,7 +28,11 @@ pub(crate) fn lowest_denominator(value: Fraction) -> u128
     ensures some { 0 < result }
     ensures fits { result < 2 ^ 127 }
 {
-    value.bottom.unsigned_abs() / common_divisor(value)
+    let bottom = value.bottom.unsigned_abs();
+    if bottom == 1 {
+        return 1;
+    }
+    bottom / common_divisor(value)
 }
 
 /// The numerator of a fraction in lowest terms.
@@ -45,6 +49,9 @@ pub(crate) fn multiple_of(one: u128, other: u128) -> Option<u128>
     requires some { 0 < other }
     ensures { SomeIff result (multiple_of one other < 2 ^ 127) (multiple_of one other) }
 {
+    if other == 1 {
+        return Some(one);
+    }
     let factor = other / gcd_natural(one, other);
     match one.checked_mul(factor) {
         None => None,
@@ -64,6 +71,9 @@ pub(crate) fn number_over(denominator: u128, value: Fraction) -> Option<i128>
     requires { denominator < 2 ^ 127 }
     ensures { SomeIff result (InRange (number_over denominator (value.top, value.bottom))) (number_over denominator (value.top, value.bottom)) }
 {
+    if value.top == 0 {
+        return Some(0);
+    }
     let factor = denominator / lowest_denominator(value);
     multiply(factor as i128, lowest_numerator(value))
 }

@@ -1,6 +1,6 @@
 use Rattle.std.proofs.Common.{arith, ℕ, sym, subst}
 use Rattle.std.proofs.Math.Nat.{one-dvd, mul-pos}
-use Rattle.std.proofs.lemmas.Nat.Gcd.{dvd_of_mod-eq-zero, le_of_dvd}
+use Rattle.std.proofs.lemmas.Nat.Gcd.{dvd_of_mod-eq-zero, dvd_refl, le_of_dvd}
 use Rattle.std.specs.Int.{◌∣◌}
 use Rattle.ta_revised.proofs.ScaleFacts.{divisor_above, divides_multiple, quotient_above}
 use Rattle.ta_revised.proofs.values.common_multiple.Goals as goal
@@ -26,3 +26,6 @@ returns-clause-first c =
 
 pub returns-clause-positive : goal.returns-clause-positive
 returns-clause-positive c = mul-pos (quotient_above _ c.args.scale c.requires.scale c.gcd_narrow-divisor.ensures.0) c.requires.positive
+
+pub returns-then-scale-denominator-eq0-clause-first : goal.returns-then-scale-denominator-eq0-clause-first
+returns-then-scale-denominator-eq0-clause-first c = dvd_refl c.args.scale

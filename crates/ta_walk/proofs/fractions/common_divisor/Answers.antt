@@ -1,4 +1,4 @@
-use Rattle.std.proofs.Common.{rules, ◌≡◌, ◌<◌, ◌%◌, ℕ, pos, ◌<ℤ◌, ◌∙◌, ap, arith, sym, subst, unsigned_abs}
+use Rattle.std.proofs.Common.{rules, ◌≡◌, ◌<◌, ◌%◌, ℕ, pos, ◌<ℤ◌, arith, sym, subst, unsigned_abs}
 use Rattle.std.specs.Prelude.{FitsSigned}
 use Rattle.std.specs.Int.{IsGcd, w128}
 use Rattle.std.proofs.lemmas.Int.{ints, to_z-of_z}

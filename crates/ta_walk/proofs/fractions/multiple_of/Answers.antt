@@ -1,9 +1,8 @@
 use Rattle.std.proofs.Common.{◌≡◌, ◌<◌, ◌/◌, ◌*◌, ◌^◌, ℕ, ◌∙◌, ap, arith, sym, subst}
 use Rattle.std.specs.Prelude.{SomeIff}
 use Rattle.ta_linear.proofs.GcdLemmas.{gcd_of_is}
-use Rattle.ta_linear.specs.Gcd.{gcd_of}
 use Rattle.ta_moments.specs.Vertices.{multiple_of}
-use Rattle.ta_walk.proofs.Lowest.{divisor_some}
+use Rattle.ta_walk.proofs.Lowest.{divisor_some, multiple_by_one}
 use Rattle.ta_walk.proofs.fractions.multiple_of.Goals as goal
 
 pub nonzero_div-factor : goal.nonzero_div-factor
@@ -23,3 +22,8 @@ returns-in-Some c =
     let product = c.in-Some.ensures in
     let same : c.in-Some.product ≡ multiple_of c.args.one c.args.other = product.1 ∙ ap (λ (n : ℕ). c.args.one * (c.args.other / n)) is in
     subst (λ (n : ℕ). SomeIff c.within.result (n < 2 ^ 127) n) same c.within.ensures
+
+pub returns-then-other-eq1 : goal.returns-then-other-eq1
+returns-then-other-eq1 c =
+    let same = multiple_by_one c.args.one c.args.other c.if-other-eq1.true in
+    (subst (λ (n : ℕ). n < 2 ^ 127) same c.requires.one, same)
