@@ -3,6 +3,7 @@
 use std::alloc::{AllocError, Global};
 use std::process::Abort;
 use std::sync::atomic::{AtomicU64, Ordering};
+use std::thread::Threads;
 use ta_base::limits::Limits;
 use ta_dense::{DenseDictionary, DensePivot, Dictionary, ExtendFault, PivotFault};
 use ta_implied::Orders;
@@ -99,16 +100,33 @@ impl Dictionary for NoRoom {
     }
 }
 
+/// The file of a text. It has no contract, so that what the crates below promise of it doesn't
+/// lengthen the proof of its caller.
+fn scoped_of<R: Abort>(rt: &R, alloc: Global, text: &[u8]) -> ScopedFile {
+    assert!(rt; text.len() <= 1_048_576);
+    read_file(alloc, text, &Limits::narrow()).expect(rt, "a file")
+}
+
+/// Whether a walk of the first pattern of a file ends.
+fn is_walked<D: Dictionary, R: Abort + Threads + Sync>(
+    rt: &R,
+    alloc: Global,
+    scoped: &ScopedFile,
+) -> bool {
+    let file = scoped.file();
+    assert!(rt; !file.patterns.as_slice().is_empty() && file.automaton.is_narrow());
+    let orders = Orders::new();
+    let tree = ClaimTree::new(Claim::Safe, file, 0, &orders);
+    walk::<D, R>(rt, alloc, &tree, 10).is_ok()
+}
+
 #[test]
 fn walks_without_room(rt: HostRuntime) {
-    let scoped = read_file(rt.alloc(), GREAT, &Limits::narrow()).expect(&rt, "a file");
-    assert!(rt;
-        !scoped.file().patterns.as_slice().is_empty() && scoped.file().automaton.is_narrow()
-    );
-    let orders = Orders::new();
-    let tree = ClaimTree::new(Claim::Safe, scoped.file(), 0, &orders);
-    assert!(rt; walk::<NoRoom, HostRuntime>(&rt, rt.alloc(), &tree, 10).is_err());
-    assert!(rt; walk::<DenseDictionary, HostRuntime>(&rt, rt.alloc(), &tree, 10).is_ok());
+    let scoped = scoped_of(&rt, rt.alloc(), GREAT);
+    let without = is_walked::<NoRoom, HostRuntime>(&rt, rt.alloc(), &scoped);
+    let with = is_walked::<DenseDictionary, HostRuntime>(&rt, rt.alloc(), &scoped);
+    drop(scoped);
+    assert!(rt; !without && with);
 }
 
 /// A gate at which each half waits until another one came, for so long that it may be said that none
@@ -131,57 +149,69 @@ impl Gate for Meeting {
     }
 }
 
-/// The file of the family with two guards. It has no contract, so that what the crates below promise
-/// of it doesn't lengthen the proof of its caller.
+/// The file of the family with two guards.
 fn family<R: Abort>(rt: &R, alloc: Global) -> ScopedFile {
     let tree = make_family(alloc, 2).expect(rt, "a tree");
     let text = print_tree(alloc, &tree).expect(rt, "memory");
-    let bytes = text.as_str().as_bytes();
-    assert!(rt; bytes.len() <= 1_048_576);
-    read_file(alloc, bytes, &Limits::narrow()).expect(rt, "a file")
+    scoped_of(rt, alloc, text.as_str().as_bytes())
+}
+
+/// How many nodes refute the first pattern of a file, where each half of a fork goes through a gate.
+fn refuting_count<R: Abort + Threads + Sync>(
+    rt: &R,
+    alloc: Global,
+    scoped: &ScopedFile,
+    gate: &Meeting,
+) -> Option<u64> {
+    let file = scoped.file();
+    assert!(rt; !file.patterns.as_slice().is_empty() && file.automaton.is_narrow());
+    let orders = Orders::new();
+    let tree = ClaimTree::new(Claim::Safe, file, 0, &orders);
+    count_of(&walk_gated::<DenseDictionary, R, Meeting>(rt, alloc, &tree, 1_000, gate))
+}
+
+/// The count of a walk that refutes.
+fn count_of(walked: &Result<WalkEnd, AllocError>) -> Option<u64> {
+    match walked {
+        Ok(WalkEnd::Refuted { count, .. }) => Some(*count),
+        _ => None,
+    }
 }
 
 // Halves that are visited one after the other never meet.
 #[test]
 fn halves_meet(rt: HostRuntime) {
     let scoped = family(&rt, rt.alloc());
-    assert!(rt;
-        !scoped.file().patterns.as_slice().is_empty() && scoped.file().automaton.is_narrow()
-    );
     let gate = Meeting {
         came: AtomicU64::new(0),
         vain: AtomicU64::new(0),
     };
-    let orders = Orders::new();
-    let tree = ClaimTree::new(Claim::Safe, scoped.file(), 0, &orders);
-    let end = walk_gated::<DenseDictionary, HostRuntime, Meeting>(
-        &rt,
-        rt.alloc(),
-        &tree,
-        1_000,
-        &gate,
-    ).expect(&rt, "memory");
-    assert!(rt; matches!(end, WalkEnd::Refuted { count: 10, .. }));
+    let count = refuting_count::<HostRuntime>(&rt, rt.alloc(), &scoped, &gate);
+    drop(scoped);
+    assert!(rt; count == Some(10));
     assert!(rt; gate.vain.load(Ordering::SeqCst) == 0);
 }
 
-/// The scope of rest of a file, without a contract for the same reason.
+/// The scope of rest of a file.
 fn left<R: Abort>(rt: &R, alloc: Global) -> RestFile {
-    let scoped = read_file(alloc, LEFT, &Limits::narrow()).expect(rt, "a file");
+    let scoped = scoped_of(rt, alloc, LEFT);
     rest_scope(alloc, scoped).expect(rt, "the scope of rest")
+}
+
+/// How many nodes refute that the first pattern of a scope of rest occurs.
+fn rest_count<R: Abort + Threads + Sync>(rt: &R, alloc: Global, rest: &RestFile) -> Option<u64> {
+    let file = rest.ending().file();
+    assert!(rt; !file.patterns.as_slice().is_empty() && file.automaton.is_narrow());
+    let orders = Orders::new();
+    let tree = ClaimTree::new(Claim::RestSafe, file, 0, &orders);
+    count_of(&walk::<DenseDictionary, R>(rt, alloc, &tree, 10))
 }
 
 // At rest nobody is in A, so the word of the event is refuted.
 #[test]
 fn words_of_rest_are_walked(rt: HostRuntime) {
     let rest = left(&rt, rt.alloc());
-    assert!(rt;
-        !rest.ending().file().patterns.as_slice().is_empty()
-            && rest.ending().file().automaton.is_narrow()
-    );
-    let orders = Orders::new();
-    let tree = ClaimTree::new(Claim::RestSafe, rest.ending().file(), 0, &orders);
-    let end = walk::<DenseDictionary, HostRuntime>(&rt, rt.alloc(), &tree, 10);
-    let end = end.expect(&rt, "memory");
-    assert!(rt; matches!(end, WalkEnd::Refuted { count: 2, .. }));
+    let count = rest_count::<HostRuntime>(&rt, rt.alloc(), &rest);
+    drop(rest);
+    assert!(rt; count == Some(2));
 }
