@@ -15,6 +15,7 @@ mod PivotedRows
 mod SlackFacts
 pub mod ScaleFacts
 pub mod RowValues
+pub mod ShortFacts
 pub mod RevisedFacts
 pub mod RevisedLaws
 pub mod Bounded

@@ -5,19 +5,18 @@ use Rattle.std.proofs.Math.Nat.{mul-le-mul_left}
 use Rattle.std.proofs.lemmas.Int.{fits_signed_from_abs, ints, to_z-of_z, unsigned_abs-mul}
 use Rattle.std.proofs.lemmas.List.{drop_more}
 use Rattle.std.proofs.lemmas.Option.{slice_get-get_or}
-use Rattle.std.specs.Int.{w128, w64}
+use Rattle.std.specs.Int.{w32, w64}
 use Rattle.ta_linear.proofs.TermLemmas.{IsNormal-le}
 use Rattle.ta_linear.specs.Terms.{IsNormal}
 use Rattle.ta_linear.specs.Values.{terms_value}
-use Rattle.ta_linear.specs.declared.row.Row.{Row}
 use Rattle.ta_revised.specs.Modest.{weight_of}
-use Rattle.ta_revised.specs.Negative.{row_value}
+use Rattle.ta_revised.specs.ShortRows.{parts_value}
 
 -- what a row's sum keeps: with what is left it is the row's value, and it is small
-pub record RowSumming (scale : ℕ) (values : List ℤ) (r : Row) (sum : ℤ) (left : List (ℕ × ℤ)) : Type 0 where
+pub record RowSumming (scale : ℕ) (values : List ℤ) (r : ℤ × List (ℕ × ℤ)) (sum : ℤ) (left : List (ℕ × ℤ)) : Type 0 where
   pub place : ℕ
   pub normal : IsNormal place (length values) left
-  pub value : sum +ℤ terms_value (λ u. get_or values u (pos 0)) left ≡ row_value scale values r
+  pub value : sum +ℤ terms_value (λ u. get_or values u (pos 0)) left ≡ parts_value scale values r
   pub small : unsigned_abs sum + 2 ^ 46 * weight_of left ≤ 2 ^ 62
 
 -- a term of a row, its unknown's value, and their product
@@ -28,7 +27,7 @@ pub record SmallTerm (values : List ℤ) (t : ℕ × ℤ) : Type 0 where
   pub product : unsigned_abs (t.1 *ℤ get_or values t.0 (pos 0)) ≤ 2 ^ 46 * unsigned_abs t.1
 
 -- the next term is small
-pub small_term : (scale : ℕ) (values : List ℤ) (r : Row) (sum : ℤ) (xs : List (ℕ × ℤ)) (i : ℕ) (d : ℕ × ℤ)
+pub small_term : (scale : ℕ) (values : List ℤ) (r : ℤ × List (ℕ × ℤ)) (sum : ℤ) (xs : List (ℕ × ℤ)) (i : ℕ) (d : ℕ × ℤ)
     → ((u : ℕ) → u < length values → unsigned_abs (get_or values u (pos 0)) ≤ 2 ^ 46) → RowSumming scale values r sum (drop i xs) → i < length xs
     → SmallTerm values (get_or xs i d)
 small_term scale values r sum xs i d few s h =
@@ -46,7 +45,7 @@ small_term scale values r sum xs i d few s h =
     }
 
 -- the sum with the next product
-pub row_next : (scale : ℕ) (values : List ℤ) (r : Row) (sum : ℤ) (xs : List (ℕ × ℤ)) (i : ℕ) (d : ℕ × ℤ)
+pub row_next : (scale : ℕ) (values : List ℤ) (r : ℤ × List (ℕ × ℤ)) (sum : ℤ) (xs : List (ℕ × ℤ)) (i : ℕ) (d : ℕ × ℤ)
     → SmallTerm values (get_or xs i d) → RowSumming scale values r sum (drop i xs) → i < length xs
     → RowSumming scale values r (sum +ℤ ((get_or xs i d).1 *ℤ get_or values (get_or xs i d).0 (pos 0))) (drop (i + 1) xs)
 row_next scale values r sum xs i d term s h =
@@ -62,14 +61,14 @@ row_next scale values r sum xs i d term s h =
 
 -- the product as it is computed
 pub computed_term : (values : List ℤ) (t : ℕ × ℤ) → SmallTerm values t
-    → to_z w64 (of_z w64 (to_z w128 (of_z w128 t.1))) *ℤ to_z w64 (of_z w64 (get_or values t.0 (pos 0))) ≡ t.1 *ℤ get_or values t.0 (pos 0)
+    → to_z w64 (of_z w64 (to_z w32 (of_z w32 t.1))) *ℤ to_z w64 (of_z w64 (get_or values t.0 (pos 0))) ≡ t.1 *ℤ get_or values t.0 (pos 0)
 computed_term values t s =
     let factor = s.factor in
     let number = s.number in
-    let wide : FitsSigned w128 t.1 = fits_signed_from_abs w128 t.1 (omega arith) in
+    let short : FitsSigned w32 t.1 = fits_signed_from_abs w32 t.1 (omega arith) in
     let first : FitsSigned w64 t.1 = fits_signed_from_abs w64 t.1 (omega arith) in
     let second : FitsSigned w64 (get_or values t.0 (pos 0)) = fits_signed_from_abs w64 (get_or values t.0 (pos 0)) (omega arith) in
-    rw (to_z-of_z w128 t.1 wide, to_z-of_z w64 t.1 first, to_z-of_z w64 (get_or values t.0 (pos 0)) second) refl
+    rw (to_z-of_z w32 t.1 short, to_z-of_z w64 t.1 first, to_z-of_z w64 (get_or values t.0 (pos 0)) second) refl
 
 -- the product fits 64 bits
 pub term_fits : (values : List ℤ) (t : ℕ × ℤ) → SmallTerm values t → FitsSigned w64 (t.1 *ℤ get_or values t.0 (pos 0))
@@ -79,7 +78,7 @@ term_fits values t s =
     fits_signed_from_abs w64 _ (omega arith)
 
 -- the sum fits 64 bits
-pub sum_fits : (scale : ℕ) (values : List ℤ) (r : Row) (sum : ℤ) (left : List (ℕ × ℤ)) → RowSumming scale values r sum left → FitsSigned w64 sum
+pub sum_fits : (scale : ℕ) (values : List ℤ) (r : ℤ × List (ℕ × ℤ)) (sum : ℤ) (left : List (ℕ × ℤ)) → RowSumming scale values r sum left → FitsSigned w64 sum
 sum_fits scale values r sum left s = let small = s.small in fits_signed_from_abs w64 sum (omega arith)
 
 -- what holds for an item of a list

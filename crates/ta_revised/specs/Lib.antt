@@ -8,5 +8,6 @@ pub mod Slack
 pub mod Negative
 pub mod Chosen
 pub mod Modest
+pub mod ShortRows
 pub mod Valid
 pub mod Laws

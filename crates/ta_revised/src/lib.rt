@@ -21,6 +21,7 @@ mod narrow_cells;
 mod narrow_rows;
 mod revised;
 mod row_cells;
+mod short_rows;
 mod slack;
 mod unknown_rows;
 mod values;
@@ -29,7 +30,7 @@ pub use laws::{
     modest_pivots_stay_in_range, negatives_leave, pivots_keep_revised, rows_are_revised,
     slacks_are_revised,
 };
-pub use modest::are_modest;
 pub use narrow_rows::NarrowRow;
 pub use revised::RevisedDictionary;
 pub use row_cells::RowCells;
+pub use short_rows::{ShortRow, ShortRows};

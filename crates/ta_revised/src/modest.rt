@@ -2,7 +2,7 @@
 #![tactic(auto)]
 
 ghost use Rattle.std.specs.Prelude.{◌≤◌, ◌≡◌, ◌+◌, ◌^◌, IsTrue, IfSome};
-ghost use Rattle.ta_revised.specs.Modest.{AreModestRows, IsModestRow, weight_of};
+ghost use Rattle.ta_revised.specs.Modest.{IsModestRow, weight_of};
 
 use ta_linear::Row;
 
@@ -26,8 +26,8 @@ fn weight_with(start: u128, terms: &[(u32, i128)]) -> Option<u128>
     Some(sum)
 }
 
-// Whether the sum of all absolute values of the row is not too great.
-fn is_modest(row: &Row) -> bool
+/// Whether the sum of all absolute values of the row is not too great.
+pub(crate) fn is_modest(row: &Row) -> bool
     ensures { IsTrue result → IsModestRow row.now }
 {
     let constant = row.form.constant.unsigned_abs();
@@ -35,16 +35,4 @@ fn is_modest(row: &Row) -> bool
         return false;
     }
     weight_with(constant, row.form.terms.as_slice()).is_some()
-}
-
-/// Whether the sum of all absolute values is not too great, for each of the rows.
-pub fn are_modest(rows: &[Row]) -> bool
-    ensures { IsTrue result → AreModestRows rows.now }
-{
-    for row in rows {
-        if !is_modest(row) {
-            return false;
-        }
-    }
-    true
 }

@@ -7,13 +7,14 @@ ghost use Rattle.ta_dense.specs.Inside.Padded.{zero_filled};
 ghost use Rattle.ta_revised.specs.Bounds.{IsBound};
 ghost use Rattle.ta_revised.specs.Narrow.{narrow_view, IsNarrow};
 ghost use Rattle.ta_dense.specs.Slack.{variables};
-ghost use Rattle.ta_revised.specs.Modest.{AreModestRows};
 ghost use Rattle.ta_revised.specs.Chosen.{EntersBy, IsRowOf, LeavingIs, NoneEntersBy};
 ghost use Rattle.ta_revised.specs.Revised.{first_rows, grown, unit_rows};
 ghost use Rattle.ta_revised.specs.Scale.{IsScale};
+ghost use Rattle.ta_revised.specs.ShortRows.{AreShort};
 ghost use Rattle.ta_revised.specs.UnknownRows.{AreAfter, AreUnknownRows, IsUnknownRow, unknown_row, unknown_rows};
 
 use crate::narrow_rows::{NarrowRow, least_bound, padded_narrow};
+use crate::short_rows::ShortRows;
 use crate::slack::slack_row;
 use crate::unknown_rows::{UnknownRow, basic_unknowns, copied, merge_rows};
 use crate::values::{least_negative, scale_of, values_of};
@@ -181,21 +182,23 @@ impl RevisedDictionary {
         scale_of(&self.rows, &self.basic, self.non_basic.len())
     }
 
-    /// The least variable of the system with a negative value where the nonbasic variables are 0.
+    /// The least variable of the system with a negative value where the nonbasic variables are 0,
+    /// from its rows in short numbers.
     pub fn leaving(
         &self,
         alloc: Global,
         system: &System,
+        rows: &ShortRows,
         scale: u32,
     ) -> Result<Option<u32>, AllocError>
         requires room { variables system.now < 2 ^ 32 }
         requires count { length self.now.rows ≡ system.now.unknowns }
-        requires modest { AreModestRows system.now.rows }
+        requires rows { AreShort rows.now system.now.rows }
         requires scale { IsScale scale self.now.rows }
         ensures { IfOk result (λ o. LeavingIs scale system.now self.now o) }
     {
         let values = values_of(alloc, &self.rows, &self.basic, self.non_basic.len(), scale)?;
-        Ok(least_negative(system, &values, scale))
+        Ok(least_negative(system, rows, &values, scale))
     }
 
     /// The row of a variable that leaves, where bounds show that it fits 16 bits: an unknown's own,

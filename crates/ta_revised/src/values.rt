@@ -1,20 +1,20 @@
 //! A common scale of the unknowns' rows, the unknowns' values over it, and the variable that leaves.
 #![tactic(auto)]
 
-ghost use Rattle.std.specs.Prelude.{◌≡◌, ◌<◌, ◌≤◌, ◌/◌, ◌^◌, ◌<ℤ◌, ◌*ℤ◌, ℕ, pos, length, get_or, slice_get, unsigned_abs, IfOk, IfSome, IfNone, IsSomeAnd};
+ghost use Rattle.std.specs.Prelude.{◌≡◌, ◌<◌, ◌≤◌, ◌/◌, ◌^◌, ◌<ℤ◌, ◌*ℤ◌, ℕ, pos, length, get_or, unsigned_abs, IfOk, IfSome, IfNone};
 ghost use Rattle.std.specs.Int.{◌∣◌};
-ghost use Rattle.ta_linear.specs.Terms.{IsNormal};
 ghost use Rattle.ta_dense.specs.Slack.{variables};
 ghost use Rattle.ta_dense.specs.Tableau.{no_row};
-ghost use Rattle.ta_revised.specs.Modest.{AreModestRows, IsModestRow};
-ghost use Rattle.ta_revised.specs.Negative.{IsLeastNegative, NoneIsNegative, RowsHold, UnknownsHold, row_value};
+ghost use Rattle.ta_revised.specs.Negative.{IsLeastNegative, NoneIsNegative, UnknownsHold};
 ghost use Rattle.ta_revised.specs.Scale.{AreValues, IsScale};
+ghost use Rattle.ta_revised.specs.ShortRows.{AreShort};
 ghost use Rattle.ta_revised.specs.UnknownRows.{AreUnknownRows, IsUnknownRow, ListsBasic, unknown_row, unknown_rows};
 
 use crate::narrow_cells::gcd_narrow;
+use crate::short_rows::ShortRows;
 use crate::unknown_rows::UnknownRow;
 use std::alloc::{AllocError, Global};
-use ta_linear::{Row, System};
+use ta_linear::System;
 
 /// Scales are below this.
 const LIMIT: u32 = 1 << 15;
@@ -128,21 +128,6 @@ pub(crate) fn values_of(
     Ok(values)
 }
 
-// The scale times the row's value.
-fn row_value_of(row: &Row, values: &[i64], scale: u32) -> i64
-    requires row { IsNormal 0 (length values.now) row.now.form.terms }
-    requires modest { IsModestRow row.now }
-    requires few { scale < 2 ^ 15 }
-    requires small { (u : ℕ) → u < length values.now → unsigned_abs (get_or values.now u (pos 0)) ≤ 2 ^ 46 }
-    ensures { result ≡ row_value scale values.now row.now }
-{
-    let mut value = scale as i64 * row.form.constant as i64;
-    for &(unknown, coefficient) in row.form.terms.as_slice() {
-        value += coefficient as i64 * values[unknown as usize];
-    }
-    value
-}
-
 // The first unknown with a negative value.
 fn negative_unknown(values: &[i64]) -> Option<u32>
     requires { length values.now < 2 ^ 32 }
@@ -157,31 +142,16 @@ fn negative_unknown(values: &[i64]) -> Option<u32>
     None
 }
 
-// The first row with a negative value.
-fn negative_row(system: &System, values: &[i64], scale: u32) -> Option<u32>
+/// The least variable of the system with a negative value, where these are its rows.
+pub(crate) fn least_negative(
+    system: &System,
+    rows: &ShortRows,
+    values: &[i64],
+    scale: u32,
+) -> Option<u32>
     requires room { variables system.now < 2 ^ 32 }
+    requires rows { AreShort rows.now system.now.rows }
     requires count { length values.now ≡ system.now.unknowns }
-    requires modest { AreModestRows system.now.rows }
-    requires few { scale < 2 ^ 15 }
-    requires small { (u : ℕ) → u < length values.now → unsigned_abs (get_or values.now u (pos 0)) ≤ 2 ^ 46 }
-    ensures found { IfSome result (λ i. (i < length system.now.rows) × IsSomeAnd (slice_get system.now.rows i) (λ r. row_value scale values.now r <ℤ pos 0)
-        × RowsHold scale values.now system.now.rows i) }
-    ensures none { IfNone result (RowsHold scale values.now system.now.rows (length system.now.rows)) }
-{
-    let rows = system.rows.as_slice();
-    for at in 0..rows.len() {
-        if row_value_of(&rows[at], values, scale) < 0 {
-            return Some(at as u32);
-        }
-    }
-    None
-}
-
-/// The least variable of the system with a negative value.
-pub(crate) fn least_negative(system: &System, values: &[i64], scale: u32) -> Option<u32>
-    requires room { variables system.now < 2 ^ 32 }
-    requires count { length values.now ≡ system.now.unknowns }
-    requires modest { AreModestRows system.now.rows }
     requires few { scale < 2 ^ 15 }
     requires small { (u : ℕ) → u < length values.now → unsigned_abs (get_or values.now u (pos 0)) ≤ 2 ^ 46 }
     ensures found { IfSome result (IsLeastNegative scale system.now values.now) }
@@ -190,6 +160,6 @@ pub(crate) fn least_negative(system: &System, values: &[i64], scale: u32) -> Opt
     if let Some(unknown) = negative_unknown(values) {
         return Some(unknown);
     }
-    let row = negative_row(system, values, scale)?;
+    let row = rows.first_negative(system, values, scale)?;
     Some(system.unknowns + row)
 }

@@ -1,10 +1,26 @@
 -- the systems of a branch by revised dictionaries: fewer, over other rows, one more, and the last of them
-use Rattle.ta_simplex.proofs.Common.{◌≡◌, ℕ, ◌≤◌, List, [], ◌∷◌, ◌++◌, length, take, drop, fewer_alike, reverse, arith, sym, ap, ◌∙◌}
+use Rattle.ta_simplex.proofs.Common.{◌≡◌, ℕ, zero, suc, ◌≤◌, List, [], ◌∷◌, ◌++◌, length, take, drop, fewer_alike, reverse, arith, sym, ap, ◌∙◌}
 use Rattle.ta_simplex.proofs.Common.{subst, Option, Some, None, option_to_list, remove, append-nil, reverse-append, length-take-le, take-append-drop}
 use Rattle.ta_simplex.proofs.Common.{Row, System, Tableau, AllBelow, BeginsSystem}
-use Rattle.std.proofs.lemmas.List.{take_all}
+use Rattle.std.proofs.Math.Seq.{take-length}
+use Rattle.std.proofs.lemmas.List.{take-take, take_all}
+use Rattle.ta_revised.proofs.ShortFacts.{short_count}
+use Rattle.ta_revised.specs.ShortRows.{AreShort}
+use Rattle.ta_revised.specs.declared.short_rows.ShortRows.{ShortRows}
 use Rattle.ta_simplex.specs.declared.revised_branch.RevisedStanding.{RevisedStanding}
 use Rattle.ta_simplex.specs.RevisedRuns.{AreRevised, IsUnderWay, RevisedFits, StandsRevised}
+
+-- the first of some items are no more than asked for
+length-take-most : {X : Type 0} (n : ℕ) (xs : List X) → length (take n xs) ≤ n
+length-take-most zero xs = omega arith
+length-take-most (suc n) [] = omega arith
+length-take-most (suc n) (x ∷ xs) = let rest = length-take-most n xs in omega arith
+
+-- nor more than there are
+length-take-fewer : {X : Type 0} (n : ℕ) (xs : List X) → length (take n xs) ≤ length xs
+length-take-fewer zero xs = omega arith
+length-take-fewer (suc n) [] = omega arith
+length-take-fewer (suc n) (x ∷ xs) = let rest = length-take-fewer n xs in omega arith
 
 -- more rows
 pub revised_more : (rows : List Row) (most all : ℕ) (os : List RevisedStanding) → most ≤ all → AreRevised rows most os → AreRevised rows all os
@@ -53,6 +69,24 @@ revised_shared rows other unknowns same [] e h f s = tt
 revised_shared rows other unknowns same (o ∷ os) e h f s =
     let r = f.1 in
     revised_more other o.rows (length other) (o ∷ os) (omega arith) (revised_rows rows other o.rows same (o ∷ os) e r (omega arith, s.1, s.2))
+
+-- the rows in short numbers, without those that aren't the same in other rows
+pub short_shared : (s t : ShortRows) (rows other : List Row) (same : ℕ) → take same rows ≡ take same other → AreShort s (take (length s.rows.items) rows)
+    → ((rs : List Row) → AreShort s rs → AreShort t (take same rs)) → AreShort t (take (length t.rows.items) other)
+short_shared s t rows other same e a cut =
+    let all = take (length s.rows.items) rows in
+    let first = cut all a in
+    let count : length t.rows.items ≡ length (take same all) = short_count t (take same all) first in
+    let few : length t.rows.items ≤ same = omega (arith, count, length-take-most same all) in
+    let less : length t.rows.items ≤ length s.rows.items = omega (arith, count, length-take-fewer same all, length-take-most (length s.rows.items) rows) in
+    let here : take same all ≡ take (length t.rows.items) other = sym (take-length (take same all)) ∙ ap (λ n. take n (take same all)) (sym count)
+    ∙ take-take (length t.rows.items) same all few ∙ take-take (length t.rows.items) (length s.rows.items) rows less
+    ∙ fewer_alike (length t.rows.items) same rows other few e in
+    subst (AreShort t) here first
+
+-- none of any rows
+pub short_none : (s : ShortRows) (rows : List Row) → AreShort s [] → AreShort s (take (length s.rows.items) rows)
+short_none s rows a = rw (short_count s [] a) a
 
 -- a system, with another name of how many unknowns it has
 record SameSystem (s : System) (unknowns : ℕ) (d : Tableau) : Type 0 where

@@ -7,6 +7,7 @@ use Rattle.ta_dense.specs.Tableau.{Tableau, TableauRow, row_of}
 use Rattle.ta_dense.specs.Slack.{slack_tableau}
 use Rattle.ta_dense.specs.Kept.{KeptPivot}
 use Rattle.ta_revised.specs.Modest.{AreModestRows, IsModest}
+use Rattle.ta_revised.specs.ShortRows.{AreShort}
 use Rattle.ta_revised.specs.Valid.{IsRevised}
 use Rattle.ta_simplex.specs.LeastIndex.{Stuck}
 use Rattle.ta_simplex.specs.Follows.{Follows, tableau_after}
@@ -64,9 +65,10 @@ abbrev pub AreRevised : List Row → ℕ → List RevisedStanding → Type 0
 AreRevised rows most [] = Unit {0}
 AreRevised rows most (o ∷ os) = (o.rows ≤ most) × StandsRevised (take o.rows rows) o × AreRevised rows o.rows os
 
--- a branch whose systems' rows are the first of these
-abbrev pub IsRevisedBranch : List Row → RevisedBranch → Type 0
-IsRevisedBranch rows b = AreRevised rows (length rows) (reverse b.systems.items)
+-- a branch whose systems' rows are the first of these, and so are those in short numbers
+pub record IsRevisedBranch (rows : List Row) (b : RevisedBranch) : Type 0 where
+  pub systems : AreRevised rows (length rows) (reverse b.systems.items)
+  pub short : AreShort b.short (take (length b.short.rows.items) rows)
 
 -- a branch over other rows, of which the first, this many, are the same as these
 pub record SharesRevisedRows (b : RevisedBranch) (same : ℕ) (rows : List Row) : Type 0 where

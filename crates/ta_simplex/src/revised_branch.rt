@@ -10,6 +10,7 @@ ghost use Rattle.std.specs.Prelude.{ℕ, ◌≡◌, ◌<◌, ◌^◌, List, IfOk
 ghost use Rattle.std.specs.Bool.{OnFalse, OnTrue};
 ghost use Rattle.ta_dense.specs.Slack.{variables};
 ghost use Rattle.ta_linear.specs.declared.row.Row.{Row};
+ghost use Rattle.ta_revised.specs.ShortRows.{AreShort};
 ghost use Rattle.ta_simplex.specs.Ends.{IsEnd};
 ghost use Rattle.ta_simplex.specs.RevisedRuns.{IsRevisedBranch, IsUnderWay, RevisedFits, SharesRevisedRows};
 
@@ -19,7 +20,7 @@ use crate::full_branch::LIMIT;
 use crate::revised_run::{Ran, run_revised};
 use std::alloc::{AllocError, Global};
 use ta_linear::System;
-use ta_revised::{RevisedDictionary, are_modest};
+use ta_revised::{RevisedDictionary, ShortRows};
 
 /// A system that ended at a vertex: how many unknowns and rows it has, its dictionary there, and
 /// about how many bytes that holds alone.
@@ -31,10 +32,12 @@ pub struct RevisedStanding {
     pub(crate) bytes: usize,
 }
 
-/// The systems of a branch of a tree, each of which begins with the rows of the one before.
+/// The systems of a branch of a tree, each of which begins with the rows of the one before, and the
+/// rows of the last one in short numbers, as far as these were written.
 #[derive(Drop)]
 pub struct RevisedBranch {
     pub(crate) systems: Vec<RevisedStanding>,
+    pub(crate) short: ShortRows,
 }
 
 impl RevisedBranch {
@@ -44,10 +47,12 @@ impl RevisedBranch {
     {
         RevisedBranch {
             systems: Vec::new(alloc),
+            short: ShortRows::new(alloc),
         }
     }
 
-    /// Gives up the last systems, as long as they have more rows than are the same.
+    /// Gives up the last systems, as long as they have more rows than are the same, and the rows that
+    /// aren't.
     pub(crate) fn give_up_last(&mut self, system: &System, same: usize)
         requires { SharesRevisedRows self.old same system.now.rows }
         ensures branch { IsRevisedBranch system.now.rows self.new }
@@ -56,6 +61,7 @@ impl RevisedBranch {
         while self.last_is_apart(system.unknowns, same) {
             let _given_up = self.systems.pop();
         }
+        self.short.cut(same);
     }
 
     // Whether there is a last system and it has more unknowns, or more rows than are the same.
@@ -86,7 +92,7 @@ impl RevisedBranch {
         let Some(first) = self.first_dictionary(alloc, system, effort)? else {
             return Ok(None);
         };
-        let Some(ran) = run_revised(alloc, system, first)? else {
+        let Some(ran) = run_revised(alloc, system, &self.short, first)? else {
             return Ok(None);
         };
         let Ran {
@@ -104,34 +110,30 @@ impl RevisedBranch {
         }
     }
 
-    // The unknowns' rows of a system after the pivots of the last system, where its new rows are
-    // modest.
+    // The unknowns' rows of a system after the pivots of the last system, where its rows are modest.
+    // These are written in short numbers then.
     fn first_dictionary(
-        &self,
+        &mut self,
         alloc: Global,
         system: &System,
         effort: &mut Effort,
     ) -> Result<Option<RevisedDictionary>, AllocError>
         requires room { variables system.now < 2 ^ 32 }
-        requires branch { IsRevisedBranch system.now.rows self.now }
-        requires fits { (same : ℕ) × RevisedFits system.now.unknowns same (reverse self.now.systems.items) }
-        ensures { IfOk result (λ o. IfSome o (IsUnderWay system.now)) }
+        requires branch { IsRevisedBranch system.now.rows self.old }
+        requires fits { (same : ℕ) × RevisedFits system.now.unknowns same (reverse self.old.systems.items) }
+        ensures first { IfOk result (λ o. IfSome o (IsUnderWay system.now)) }
+        ensures short { IfOk result (λ o. IfSome o (λ d. AreShort self.new.short system.now.rows)) }
+        ensures branch { IfOk result (λ o. IsRevisedBranch system.now.rows self.new) }
     {
+        if !self.short.extend(system.rows.as_slice())? {
+            return Ok(None);
+        }
         match self.systems.as_slice().split_last() {
             None => {
-                if !are_modest(system.rows.as_slice()) {
-                    return Ok(None);
-                }
                 effort.begin();
                 Ok(Some(RevisedDictionary::first(alloc, system.unknowns)?))
             }
-            Some((last, _)) => {
-                let (_, new) = system.rows.as_slice().split_at(last.rows);
-                if !are_modest(new) {
-                    return Ok(None);
-                }
-                Ok(Some(last.dictionary.grown(alloc, system.unknowns)?))
-            }
+            Some((last, _)) => Ok(Some(last.dictionary.grown(alloc, system.unknowns)?)),
         }
     }
 

@@ -3,13 +3,14 @@
 
 ghost use Rattle.std.specs.Prelude.{ℕ, ◌<◌, ◌^◌, IfOk, IfSome};
 ghost use Rattle.ta_dense.specs.Slack.{variables};
+ghost use Rattle.ta_revised.specs.ShortRows.{AreShort};
 ghost use Rattle.ta_simplex.specs.RevisedRuns.{HasRun, IsStep, IsUnderWay};
 
 use crate::End;
 use crate::revised_ends::{revised_multipliers, revised_vertex};
 use std::alloc::{AllocError, Global};
 use ta_linear::System;
-use ta_revised::RevisedDictionary;
+use ta_revised::{RevisedDictionary, ShortRows};
 
 /// So many pivots are made before a run is given up. Most runs have some hundred.
 const MOST_PIVOTS: usize = 1_000_000;
@@ -35,17 +36,19 @@ pub(crate) enum Step {
 fn next_step(
     alloc: Global,
     system: &System,
+    rows: &ShortRows,
     dictionary: RevisedDictionary,
     pivots: usize,
 ) -> Result<Step, AllocError>
     requires room { variables system.now < 2 ^ 32 }
+    requires rows { AreShort rows.now system.now.rows }
     requires under_way { IsUnderWay system.now dictionary }
     ensures { IfOk result (IsStep system.now) }
 {
     let Some(scale) = dictionary.scale() else {
         return Ok(Step::GivenUp);
     };
-    let Some(variable) = dictionary.leaving(alloc, system, scale)? else {
+    let Some(variable) = dictionary.leaving(alloc, system, rows, scale)? else {
         let values = revised_vertex(alloc, system, &dictionary)?;
         return Ok(Step::Ended(Ran {
             end: End::Vertex(values),
@@ -70,19 +73,22 @@ fn next_step(
     }
 }
 
-/// Pivots on until nothing can leave or enter, where the bounds of the dictionary suffice.
+/// Pivots on until nothing can leave or enter, where the bounds of the dictionary suffice. These are
+/// the system's rows in short numbers.
 pub(crate) fn run_revised(
     alloc: Global,
     system: &System,
+    rows: &ShortRows,
     first: RevisedDictionary,
 ) -> Result<Option<Ran>, AllocError>
     requires room { variables system.now < 2 ^ 32 }
+    requires rows { AreShort rows.now system.now.rows }
     requires under_way { IsUnderWay system.now first }
     ensures { IfOk result (λ o. IfSome o (HasRun system.now)) }
 {
     let mut dictionary = first;
     for pivots in 0..MOST_PIVOTS {
-        match next_step(alloc, system, dictionary, pivots)? {
+        match next_step(alloc, system, rows, dictionary, pivots)? {
             Step::Pivoted(next) => dictionary = next,
             Step::Ended(ran) => return Ok(Some(ran)),
             Step::GivenUp => return Ok(None),

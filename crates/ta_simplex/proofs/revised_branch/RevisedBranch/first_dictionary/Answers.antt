@@ -1,6 +1,7 @@
-use Rattle.std.proofs.Common.{ℕ, List, drop, sym, ap, ◌∙◌, subst, refl}
+use Rattle.std.proofs.Common.{List, length, sym, ◌∙◌, subst}
+use Rattle.std.proofs.lemmas.List.Elements.{All-drop}
 use Rattle.ta_linear.specs.declared.row.Row.{Row}
-use Rattle.ta_revised.specs.Modest.{AreModestRows}
+use Rattle.ta_revised.specs.Modest.{AreModestRows, IsModestRow}
 use Rattle.ta_dense.specs.Tableau.{Tableau}
 use Rattle.ta_simplex.specs.RevisedRuns.{IsUnderWay}
 use Rattle.ta_revised.proofs.RevisedLaws.{revised_laws}
@@ -10,37 +11,38 @@ use Rattle.ta_simplex.proofs.revised_branch.RevisedBranch.first_dictionary.Goals
 
 pub grown-requires-clause-more : goal.grown-requires-clause-more
 grown-requires-clause-more c =
-    let e = sym c.as_slice.ensures.value ∙ c.in-Some.ensures.cases.0 in
+    let e = sym c.as_slice-2.ensures.value ∙ c.in-Some.ensures.cases.0 in
     let last = last_revised c.args.self.now.systems.items c.in-Some.field-0-1.now c.in-Some.last.now c.args.system.now c.requires.fits.0 e
-    c.requires.branch c.requires.fits.1 in
+    c.requires.branch.systems c.requires.fits.1 in
     (may_grow last.shorter c.args.system.now c.in-Some.last.now.dictionary last.begins last.under_way c.requires.room).more
 
 pub grown-requires-clause-count : goal.grown-requires-clause-count
 grown-requires-clause-count c =
-    let e = sym c.as_slice.ensures.value ∙ c.in-Some.ensures.cases.0 in
+    let e = sym c.as_slice-2.ensures.value ∙ c.in-Some.ensures.cases.0 in
     let last = last_revised c.args.self.now.systems.items c.in-Some.field-0-1.now c.in-Some.last.now c.args.system.now c.requires.fits.0 e
-    c.requires.branch c.requires.fits.1 in
+    c.requires.branch.systems c.requires.fits.1 in
     (may_grow last.shorter c.args.system.now c.in-Some.last.now.dictionary last.begins last.under_way c.requires.room).count
 
 pub grown-requires-clause-room : goal.grown-requires-clause-room
 grown-requires-clause-room c =
-    let e = sym c.as_slice.ensures.value ∙ c.in-Some.ensures.cases.0 in
+    let e = sym c.as_slice-2.ensures.value ∙ c.in-Some.ensures.cases.0 in
     let last = last_revised c.args.self.now.systems.items c.in-Some.field-0-1.now c.in-Some.last.now c.args.system.now c.requires.fits.0 e
-    c.requires.branch c.requires.fits.1 in
+    c.requires.branch.systems c.requires.fits.1 in
     (may_grow last.shorter c.args.system.now c.in-Some.last.now.dictionary last.begins last.under_way c.requires.room).room
 
-pub returns-in_ok-first-in-None : goal.returns-in_ok-first-in-None
-returns-in_ok-first-in-None c =
-    let modest = subst (λ (rs : List Row). AreModestRows rs) c.as_slice-in-None.ensures (c.if-not-are_modest.ensures refl) in
+pub returns-in_ok-first-in-None-clause-first : goal.returns-in_ok-first-in-None-clause-first
+returns-in_ok-first-in-None-clause-first c =
+    let all = rw c.if-not-branch.false at c.in_ok-extend.ensures.all in
+    let modest = subst (λ (rs : List Row). AreModestRows rs) c.as_slice.ensures all.modest in
     subst (λ (d : Tableau). IsUnderWay c.args.system.now d) (sym c.in_ok-first-in-None.ensures) (under_way_first revised_laws c.args.system.now modest)
 
-pub returns-in_ok-grown-in-Some : goal.returns-in_ok-grown-in-Some
-returns-in_ok-grown-in-Some c =
-    let e = sym c.as_slice.ensures.value ∙ c.in-Some.ensures.cases.0 in
+pub returns-in_ok-grown-in-Some-clause-first : goal.returns-in_ok-grown-in-Some-clause-first
+returns-in_ok-grown-in-Some-clause-first c =
+    let e = sym c.as_slice-2.ensures.value ∙ c.in-Some.ensures.cases.0 in
     let last = last_revised c.args.self.now.systems.items c.in-Some.field-0-1.now c.in-Some.last.now c.args.system.now c.requires.fits.0 e
-    c.requires.branch c.requires.fits.1 in
-    let new = c.split_at.ensures.back ∙ ap (λ (rs : List Row). drop c.in-Some.last.now.rows rs) c.as_slice-in-Some.ensures
-    ∙ ap (λ (n : ℕ). drop n c.args.system.now.rows) (sym last.count) in
-    let modest = subst (λ (rs : List Row). AreModestRows rs) new (c.if-not-are_modest-2.ensures refl) in
+    c.requires.branch.systems c.requires.fits.1 in
+    let all = rw c.if-not-branch.false at c.in_ok-extend.ensures.all in
+    let modest = subst (λ (rs : List Row). AreModestRows rs) c.as_slice.ensures all.modest in
     subst (λ (d : Tableau). IsUnderWay c.args.system.now d) (sym c.in_ok-grown-in-Some.ensures)
-    (under_way_grown revised_laws last.shorter c.args.system.now c.in-Some.last.now.dictionary last.begins last.under_way modest)
+    (under_way_grown revised_laws last.shorter c.args.system.now c.in-Some.last.now.dictionary last.begins last.under_way
+    (All-drop IsModestRow (length last.shorter.rows) c.args.system.now.rows modest))

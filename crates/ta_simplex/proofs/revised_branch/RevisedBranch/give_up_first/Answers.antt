@@ -4,5 +4,8 @@ use Rattle.ta_simplex.proofs.revised_branch.RevisedBranch.give_up_first.Goals as
 
 pub loop-self-preserved : goal.loop-self-preserved
 loop-self-preserved c = λ rows branch.
-    revised_removed rows (length rows) c.loop-self.self.systems.items c.remove-given_up.new.self.items c.remove-given_up.ensures.items
-    (c.loop-self.invariant rows branch)
+    let inv = c.loop-self.invariant rows branch in
+    record {
+      systems = revised_removed rows (length rows) c.loop-self.self.systems.items c.remove-given_up.new.self.items c.remove-given_up.ensures.items inv.systems;
+      short = inv.short;
+    }

@@ -1,5 +1,5 @@
 use Rattle.ta_revised.specs.Negative.{RowsHold}
-use Rattle.ta_revised.proofs.values.negative_row.Given as goal
+use Rattle.ta_revised.proofs.short_rows.ShortRows.first_negative.Given as goal
 
 abbrev pub invariant-loop-at : goal.invariant-loop-at
 invariant-loop-at l = RowsHold l.scale l.values l.system.rows l.at

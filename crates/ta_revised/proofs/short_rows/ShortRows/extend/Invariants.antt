@@ -1,0 +1,6 @@
+use Rattle.std.specs.Prelude.{◌≡◌, length, take}
+use Rattle.ta_revised.specs.ShortRows.{AreShort}
+use Rattle.ta_revised.proofs.short_rows.ShortRows.extend.Given as goal
+
+abbrev pub invariant-loop-at : goal.invariant-loop-at
+invariant-loop-at l = AreShort l.self (take l.at l.rows) × (length l.self.rows.items ≡ l.at)
