@@ -16,6 +16,7 @@ mod SlackFacts
 pub mod ScaleFacts
 pub mod RowValues
 pub mod ShortFacts
+pub mod GrownHolds
 pub mod RevisedFacts
 pub mod RevisedLaws
 pub mod Bounded

@@ -58,7 +58,7 @@ row_at_vertex s t x r is =
     let h = is.holds (pos x.m) x.value x.assigned in
     omega (arith, ints, none, h)
 
-unknown_arith : (d v m b w l : ℤ) → d *ℤ v ≡ m *ℤ b → d *ℤ w ≡ l *ℤ b → d *ℤ (l *ℤ v) ≡ d *ℤ (m *ℤ w)
+pub unknown_arith : (d v m b w l : ℤ) → d *ℤ v ≡ m *ℤ b → d *ℤ w ≡ l *ℤ b → d *ℤ (l *ℤ v) ≡ d *ℤ (m *ℤ w)
 unknown_arith d v m b w l h e =
     let x = simp expand at (ap (λ (z : ℤ). l *ℤ z) h) in
     let y = simp expand at (ap (λ (z : ℤ). m *ℤ z) e) in
@@ -88,7 +88,7 @@ terms_value-multiple low n (y ∷ ts) f g l m normal same =
     term_arith l m y.1 (f y.0) (g y.0) (terms_value f ts) (terms_value g ts) (same y.0 inside)
     (terms_value-multiple (y.0 + 1) n ts f g l m normal.2 same)
 
-slack_arith : (l m v terms other c : ℤ) → v ≡ terms +ℤ m *ℤ c → l *ℤ terms ≡ m *ℤ other → l *ℤ v ≡ m *ℤ (other +ℤ l *ℤ c)
+pub slack_arith : (l m v terms other c : ℤ) → v ≡ terms +ℤ m *ℤ c → l *ℤ terms ≡ m *ℤ other → l *ℤ v ≡ m *ℤ (other +ℤ l *ℤ c)
 slack_arith l m v terms other c h e = let x = simp expand at (ap (λ (z : ℤ). l *ℤ z) h) in simp expand (omega (arith, ints, x, e))
 
 -- a slack there, by its row's value over the scale
@@ -105,7 +105,7 @@ slack_at_vertex s t d scale values x v are k r e =
 negative_as : (l m : ℕ) (v w : ℤ) → 0 < l → 0 < m → pos l *ℤ v ≡ pos m *ℤ w → w <ℤ pos 0 → v <ℤ pos 0
 negative_as l m v w h k e low = lt-zero_of_mul (pos l) v (omega (arith, ints)) (subst (λ (z : ℤ). z <ℤ pos 0) (sym e) (mul-lt-zero m w k low))
 
-natural_as : (l m : ℕ) (v w : ℤ) → 0 < l → pos l *ℤ v ≡ pos m *ℤ w → pos 0 ≤ℤ w → pos 0 ≤ℤ v
+pub natural_as : (l m : ℕ) (v w : ℤ) → 0 < l → pos l *ℤ v ≡ pos m *ℤ w → pos 0 ≤ℤ w → pos 0 ≤ℤ v
 natural_as l m v w h e high =
     ge-zero_of_mul (pos l) v (omega (arith, ints)) (subst (λ (z : ℤ). pos 0 ≤ℤ z) (sym e) (mul-ge-zero (pos m) w (omega (arith, ints)) high))
 

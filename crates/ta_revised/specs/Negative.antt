@@ -3,6 +3,8 @@ use Rattle.std.specs.Prelude.{ℕ, ℤ, ◌<◌, ◌+◌, ◌≡◌, ◌⊎◌, 
 use Rattle.ta_linear.specs.declared.row.Row.{Row}
 use Rattle.ta_linear.specs.declared.row.System.{System}
 use Rattle.ta_dense.specs.Slack.{slack_at}
+use Rattle.ta_dense.specs.Tableau.{Tableau}
+use Rattle.ta_revised.specs.Scale.{AreValues, IsScale}
 
 -- the value of a system's row, at values over a scale
 abbrev pub row_value : ℕ → List ℤ → Row → ℤ
@@ -15,6 +17,10 @@ UnknownsHold values count = (u : ℕ) → u < count → pos 0 ≤ℤ get_or valu
 -- each of the first rows is at least 0
 abbrev pub RowsHold : ℕ → List ℤ → List Row → ℕ → Type 0
 RowsHold scale values rows count = (i : ℕ) → i < count → IsSomeAnd (slice_get rows i) (λ r. pos 0 ≤ℤ row_value scale values r)
+
+-- each of the first rows holds, over whatever scale the values are
+abbrev pub FirstHold : System → Tableau → ℕ → Type 0
+FirstHold s d count = (scale : ℕ) (values : List ℤ) → IsScale scale d.rows → AreValues scale d.rows values → RowsHold scale values s.rows count
 
 -- an unknown is negative, and none before it
 pub record IsNegativeUnknown (s : System) (values : List ℤ) (v : ℕ) : Type 0 where
@@ -38,3 +44,11 @@ IsLeastNegative scale s values v = IsNegativeUnknown s values v ⊎ IsNegativeSl
 pub record NoneIsNegative (scale : ℕ) (s : System) (values : List ℤ) : Type 0 where
   pub unknowns : UnknownsHold values s.unknowns
   pub rows : RowsHold scale values s.rows (length s.rows)
+
+-- none is negative, at the values over some scale
+pub record NoneNegativeAt (s : System) (d : Tableau) : Type 0 where
+  pub scale : ℕ
+  pub values : List ℤ
+  pub is : IsScale scale d.rows
+  pub are : AreValues scale d.rows values
+  pub none : NoneIsNegative scale s values

@@ -10,6 +10,7 @@ ghost use Rattle.ta_dense.specs.Slack.{variables};
 ghost use Rattle.ta_revised.specs.Chosen.{EntersBy, IsRowOf, LeavingIs, NoneEntersBy};
 ghost use Rattle.ta_revised.specs.Revised.{first_rows, grown, unit_rows};
 ghost use Rattle.ta_revised.specs.Scale.{IsScale};
+ghost use Rattle.ta_revised.specs.Negative.{FirstHold};
 ghost use Rattle.ta_revised.specs.ShortRows.{AreShort};
 ghost use Rattle.ta_revised.specs.UnknownRows.{AreAfter, AreUnknownRows, IsUnknownRow, unknown_row, unknown_rows};
 
@@ -183,22 +184,24 @@ impl RevisedDictionary {
     }
 
     /// The least variable of the system with a negative value where the nonbasic variables are 0,
-    /// from its rows in short numbers.
+    /// from its rows in short numbers. The first of them, so many, hold.
     pub fn leaving(
         &self,
         alloc: Global,
         system: &System,
         rows: &ShortRows,
         scale: u32,
+        from: usize,
     ) -> Result<Option<u32>, AllocError>
         requires room { variables system.now < 2 ^ 32 }
         requires count { length self.now.rows ≡ system.now.unknowns }
         requires rows { AreShort rows.now system.now.rows }
+        requires hold { FirstHold system.now self.now from }
         requires scale { IsScale scale self.now.rows }
         ensures { IfOk result (λ o. LeavingIs scale system.now self.now o) }
     {
         let values = values_of(alloc, &self.rows, &self.basic, self.non_basic.len(), scale)?;
-        Ok(least_negative(system, rows, &values, scale))
+        Ok(least_negative(system, rows, &values, scale, from))
     }
 
     /// The row of a variable that leaves, where bounds show that it fits 16 bits: an unknown's own,

@@ -128,19 +128,27 @@ impl ShortRows {
         Ok(true)
     }
 
-    /// The first row of a system with a negative value, where these are the system's rows.
-    pub(crate) fn first_negative(&self, system: &System, values: &[i64], scale: u32) -> Option<u32>
+    /// The first row of a system with a negative value, where these are the system's rows, and the
+    /// values of the first of them, so many, are not negative.
+    pub(crate) fn first_negative(
+        &self,
+        system: &System,
+        values: &[i64],
+        scale: u32,
+        from: usize,
+    ) -> Option<u32>
         requires rows { AreShort self.now system.now.rows }
         requires room { length system.now.rows < 2 ^ 32 }
         requires count { length values.now ≡ system.now.unknowns }
         requires few { scale < 2 ^ 15 }
         requires small { (u : ℕ) → u < length values.now → unsigned_abs (get_or values.now u (pos 0)) ≤ 2 ^ 46 }
+        requires from { RowsHold scale values.now system.now.rows from }
         ensures found { IfSome result (λ i. (i < length system.now.rows) × IsSomeAnd (slice_get system.now.rows i) (λ r. row_value scale values.now r <ℤ pos 0)
             × RowsHold scale values.now system.now.rows i) }
         ensures none { IfNone result (RowsHold scale values.now system.now.rows (length system.now.rows)) }
     {
         let _system = system;
-        for at in 0..self.rows.len() {
+        for at in from..self.rows.len() {
             let row = self.rows[at];
             let terms = terms_of(&self.terms, row);
             if row_value_of(row.constant, terms, values, scale) < 0 {

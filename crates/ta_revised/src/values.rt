@@ -5,7 +5,7 @@ ghost use Rattle.std.specs.Prelude.{◌≡◌, ◌<◌, ◌≤◌, ◌/◌, ◌^
 ghost use Rattle.std.specs.Int.{◌∣◌};
 ghost use Rattle.ta_dense.specs.Slack.{variables};
 ghost use Rattle.ta_dense.specs.Tableau.{no_row};
-ghost use Rattle.ta_revised.specs.Negative.{IsLeastNegative, NoneIsNegative, UnknownsHold};
+ghost use Rattle.ta_revised.specs.Negative.{IsLeastNegative, NoneIsNegative, RowsHold, UnknownsHold};
 ghost use Rattle.ta_revised.specs.Scale.{AreValues, IsScale};
 ghost use Rattle.ta_revised.specs.ShortRows.{AreShort};
 ghost use Rattle.ta_revised.specs.UnknownRows.{AreUnknownRows, IsUnknownRow, ListsBasic, unknown_row, unknown_rows};
@@ -142,24 +142,27 @@ fn negative_unknown(values: &[i64]) -> Option<u32>
     None
 }
 
-/// The least variable of the system with a negative value, where these are its rows.
+/// The least variable of the system with a negative value, where these are its rows, and the values
+/// of the first of them, so many, are not negative.
 pub(crate) fn least_negative(
     system: &System,
     rows: &ShortRows,
     values: &[i64],
     scale: u32,
+    from: usize,
 ) -> Option<u32>
     requires room { variables system.now < 2 ^ 32 }
     requires rows { AreShort rows.now system.now.rows }
     requires count { length values.now ≡ system.now.unknowns }
     requires few { scale < 2 ^ 15 }
     requires small { (u : ℕ) → u < length values.now → unsigned_abs (get_or values.now u (pos 0)) ≤ 2 ^ 46 }
+    requires from { RowsHold scale values.now system.now.rows from }
     ensures found { IfSome result (IsLeastNegative scale system.now values.now) }
     ensures none { IfNone result (NoneIsNegative scale system.now values.now) }
 {
     if let Some(unknown) = negative_unknown(values) {
         return Some(unknown);
     }
-    let row = rows.first_negative(system, values, scale)?;
+    let row = rows.first_negative(system, values, scale, from)?;
     Some(system.unknowns + row)
 }

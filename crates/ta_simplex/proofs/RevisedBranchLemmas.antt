@@ -5,6 +5,7 @@ use Rattle.ta_simplex.proofs.Common.{Row, System, Tableau, AllBelow, BeginsSyste
 use Rattle.std.proofs.Math.Seq.{take-length}
 use Rattle.std.proofs.lemmas.List.{take-take, take_all}
 use Rattle.ta_revised.proofs.ShortFacts.{short_count}
+use Rattle.ta_revised.specs.Negative.{NoneNegativeAt}
 use Rattle.ta_revised.specs.ShortRows.{AreShort}
 use Rattle.ta_revised.specs.declared.short_rows.ShortRows.{ShortRows}
 use Rattle.ta_simplex.specs.declared.revised_branch.RevisedStanding.{RevisedStanding}
@@ -92,23 +93,26 @@ short_none s rows a = rw (short_count s [] a) a
 record SameSystem (s : System) (unknowns : ℕ) (d : Tableau) : Type 0 where
   below : AllBelow unknowns s.rows
   under_way : IsUnderWay (record { unknowns = unknowns; rows = s.rows; within = below }) d
+  holds : NoneNegativeAt (record { unknowns = unknowns; rows = s.rows; within = below }) d
 
 -- each system is one under its own number
-same_system : (s : System) (unknowns : ℕ) (d : Tableau) → s.unknowns ≡ unknowns → IsUnderWay s d → SameSystem s unknowns d
-same_system s unknowns d e way = subst (λ (n : ℕ). SameSystem s n d) e (record { below = s.within; under_way = way })
+same_system : (s : System) (unknowns : ℕ) (d : Tableau) → s.unknowns ≡ unknowns → IsUnderWay s d → NoneNegativeAt s d → SameSystem s unknowns d
+same_system s unknowns d e way holds = subst (λ (n : ℕ). SameSystem s n d) e (record { below = s.within; under_way = way; holds = holds })
 
 -- a system stands with all of its rows
-stands_revised : (s : System) (o : RevisedStanding) → o.unknowns ≡ s.unknowns → IsUnderWay s o.dictionary → StandsRevised s.rows o
-stands_revised s o e way =
-    let same = same_system s o.unknowns o.dictionary (sym e) way in
-    record { below = same.below; under_way = same.under_way }
+stands_revised : (s : System) (o : RevisedStanding) → o.unknowns ≡ s.unknowns → IsUnderWay s o.dictionary → NoneNegativeAt s o.dictionary
+    → StandsRevised s.rows o
+stands_revised s o e way holds =
+    let same = same_system s o.unknowns o.dictionary (sym e) way holds in
+    record { below = same.below; under_way = same.under_way; holds = same.holds }
 
 -- one more
 pub revised_push : (s : System) (o : RevisedStanding) (xs ys : List RevisedStanding) → ys ≡ xs ++ o ∷ [] → o.unknowns ≡ s.unknowns → o.rows ≡ length s.rows
-    → IsUnderWay s o.dictionary → AreRevised s.rows (length s.rows) (reverse xs) → AreRevised s.rows (length s.rows) (reverse ys)
-revised_push s o xs ys e same_unknowns same_rows way before =
+    → IsUnderWay s o.dictionary → NoneNegativeAt s o.dictionary → AreRevised s.rows (length s.rows) (reverse xs)
+    → AreRevised s.rows (length s.rows) (reverse ys)
+revised_push s o xs ys e same_unknowns same_rows way holds before =
     let all : take o.rows s.rows ≡ s.rows = take_all o.rows s.rows (omega (arith, same_rows)) in
-    let here : StandsRevised s.rows o = stands_revised s o same_unknowns way in
+    let here : StandsRevised s.rows o = stands_revised s o same_unknowns way holds in
     let there : StandsRevised (take o.rows s.rows) o = subst (λ (rs : List Row). StandsRevised rs o) (sym all) here in
     let rest : AreRevised s.rows o.rows (reverse xs) = subst (λ (n : ℕ). AreRevised s.rows n (reverse xs)) (sym same_rows) before in
     let most : o.rows ≤ length s.rows = omega (arith, same_rows) in
@@ -119,6 +123,7 @@ pub record LastRevised (o : RevisedStanding) (l : System) : Type 0 where
   pub shorter : System
   pub begins : BeginsSystem shorter l
   pub under_way : IsUnderWay shorter o.dictionary
+  pub holds : NoneNegativeAt shorter o.dictionary
   pub count : length shorter.rows ≡ o.rows
 
 -- the last system of a branch that fits is such a beginning
@@ -135,5 +140,6 @@ last_revised xs rest o l same e s b =
       shorter = record { unknowns = o.unknowns; rows = take o.rows l.rows; within = on.below };
       begins = record { unknowns = fits.0; rows = sym (take-append-drop o.rows l.rows) ∙ ap (λ (n : ℕ). take o.rows l.rows ++ drop n l.rows) (sym count_rows) };
       under_way = on.under_way;
+      holds = on.holds;
       count = count_rows;
     }

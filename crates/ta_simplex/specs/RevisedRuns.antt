@@ -7,13 +7,17 @@ use Rattle.ta_dense.specs.Tableau.{Tableau, TableauRow, row_of}
 use Rattle.ta_dense.specs.Slack.{slack_tableau}
 use Rattle.ta_dense.specs.Kept.{KeptPivot}
 use Rattle.ta_revised.specs.Modest.{AreModestRows, IsModest}
+use Rattle.ta_revised.specs.Negative.{FirstHold, NoneNegativeAt}
 use Rattle.ta_revised.specs.ShortRows.{AreShort}
 use Rattle.ta_revised.specs.Valid.{IsRevised}
 use Rattle.ta_simplex.specs.LeastIndex.{Stuck}
 use Rattle.ta_simplex.specs.Follows.{Follows, tableau_after}
 use Rattle.ta_simplex.specs.Vertex.{ValueIs}
 use Rattle.ta_simplex.specs.Ends.{IsEnd}
+use Rattle.ta_simplex.specs.declared.End.{End}
+use Rattle.ta_simplex.specs.declared.End.TheVariants.{Refuted, Vertex}
 use Rattle.ta_simplex.specs.declared.fraction.Fraction.{Fraction}
+use Rattle.ta_simplex.specs.declared.revised_run.Beginning.{Beginning}
 use Rattle.ta_simplex.specs.declared.revised_run.Ran.{Ran}
 use Rattle.ta_simplex.specs.declared.revised_run.Step.{Step}
 use Rattle.ta_simplex.specs.declared.revised_run.Step.TheVariants.{Pivoted, Ended, GivenUp}
@@ -33,6 +37,11 @@ pub record IsUnderWay (s : System) (d : Tableau) : Type 0 where
   pub runs : RunsModestly s tableau
   pub revised : IsRevised s tableau d
 
+-- with them a run begins, and the first rows hold, so many
+pub record Begins (s : System) (b : Beginning) : Type 0 where
+  pub under_way : IsUnderWay s b.dictionary
+  pub hold : FirstHold s b.dictionary b.hold
+
 -- nothing can enter for a row of such a tableau, which is this one
 pub record IsStuckAt (s : System) (d : Tableau) (r : TableauRow) (t : Tableau) (row : ℕ) : Type 0 where
   pub revised : IsRevised s t d
@@ -44,10 +53,16 @@ pub record AreRevisedValues (d : Tableau) (count : ℕ) (values : List Fraction)
   pub long : length values ≡ count
   pub each : (x : ℕ) → x < count → ValueIs values x (row_of d x).constant (row_of d x).denominator
 
+-- no variable is negative at a vertex
+abbrev pub HoldsAt : System → Tableau → End → Type 0
+HoldsAt s d (Vertex values) = NoneNegativeAt s d
+HoldsAt s d (Refuted multipliers) = Unit {0}
+
 -- where a run ended, and what it came to
 pub record HasRun (s : System) (r : Ran) : Type 0 where
   pub ended : IsEnd s r.end
   pub under_way : IsUnderWay s r.dictionary
+  pub holds : HoldsAt s r.dictionary r.end
 
 -- what one step came to
 abbrev pub IsStep : System → Step → Type 0
@@ -59,6 +74,7 @@ IsStep s GivenUp = Unit {0}
 pub record StandsRevised (rows : List Row) (o : RevisedStanding) : Type 0 where
   pub below : AllBelow o.unknowns rows
   pub under_way : IsUnderWay (record { unknowns = o.unknowns; rows = rows; within = below }) o.dictionary
+  pub holds : NoneNegativeAt (record { unknowns = o.unknowns; rows = rows; within = below }) o.dictionary
 
 -- the systems, the last first, each with no more rows than the one after it in the branch; each has the first of all rows as its rows
 abbrev pub AreRevised : List Row → ℕ → List RevisedStanding → Type 0

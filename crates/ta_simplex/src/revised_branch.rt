@@ -10,14 +10,15 @@ ghost use Rattle.std.specs.Prelude.{ℕ, ◌≡◌, ◌<◌, ◌^◌, List, IfOk
 ghost use Rattle.std.specs.Bool.{OnFalse, OnTrue};
 ghost use Rattle.ta_dense.specs.Slack.{variables};
 ghost use Rattle.ta_linear.specs.declared.row.Row.{Row};
+ghost use Rattle.ta_revised.specs.Negative.{NoneNegativeAt};
 ghost use Rattle.ta_revised.specs.ShortRows.{AreShort};
 ghost use Rattle.ta_simplex.specs.Ends.{IsEnd};
-ghost use Rattle.ta_simplex.specs.RevisedRuns.{IsRevisedBranch, IsUnderWay, RevisedFits, SharesRevisedRows};
+ghost use Rattle.ta_simplex.specs.RevisedRuns.{Begins, IsRevisedBranch, IsUnderWay, RevisedFits, SharesRevisedRows};
 
 use crate::End;
 use crate::effort::Effort;
 use crate::full_branch::LIMIT;
-use crate::revised_run::{Ran, run_revised};
+use crate::revised_run::{Beginning, Ran, run_revised};
 use std::alloc::{AllocError, Global};
 use ta_linear::System;
 use ta_revised::{RevisedDictionary, ShortRows};
@@ -89,7 +90,7 @@ impl RevisedBranch {
         ensures end { IfOk result (λ o. IfSome o (IsEnd system.now)) }
         ensures branch { IfOk result (λ o. IsRevisedBranch system.now.rows self.new) }
     {
-        let Some(first) = self.first_dictionary(alloc, system, effort)? else {
+        let Some(first) = self.beginning(alloc, system, effort)? else {
             return Ok(None);
         };
         let Some(ran) = run_revised(alloc, system, &self.short, first)? else {
@@ -111,18 +112,18 @@ impl RevisedBranch {
     }
 
     // The unknowns' rows of a system after the pivots of the last system, where its rows are modest.
-    // These are written in short numbers then.
-    fn first_dictionary(
+    // These are written in short numbers then, and those of the last system hold.
+    fn beginning(
         &mut self,
         alloc: Global,
         system: &System,
         effort: &mut Effort,
-    ) -> Result<Option<RevisedDictionary>, AllocError>
+    ) -> Result<Option<Beginning>, AllocError>
         requires room { variables system.now < 2 ^ 32 }
         requires branch { IsRevisedBranch system.now.rows self.old }
         requires fits { (same : ℕ) × RevisedFits system.now.unknowns same (reverse self.old.systems.items) }
-        ensures first { IfOk result (λ o. IfSome o (IsUnderWay system.now)) }
-        ensures short { IfOk result (λ o. IfSome o (λ d. AreShort self.new.short system.now.rows)) }
+        ensures first { IfOk result (λ o. IfSome o (Begins system.now)) }
+        ensures short { IfOk result (λ o. IfSome o (λ b. AreShort self.new.short system.now.rows)) }
         ensures branch { IfOk result (λ o. IsRevisedBranch system.now.rows self.new) }
     {
         if !self.short.extend(system.rows.as_slice())? {
@@ -131,9 +132,15 @@ impl RevisedBranch {
         match self.systems.as_slice().split_last() {
             None => {
                 effort.begin();
-                Ok(Some(RevisedDictionary::first(alloc, system.unknowns)?))
+                Ok(Some(Beginning {
+                    dictionary: RevisedDictionary::first(alloc, system.unknowns)?,
+                    hold: 0,
+                }))
             }
-            Some((last, _)) => Ok(Some(last.dictionary.grown(alloc, system.unknowns)?)),
+            Some((last, _)) => Ok(Some(Beginning {
+                dictionary: last.dictionary.grown(alloc, system.unknowns)?,
+                hold: last.rows,
+            })),
         }
     }
 
@@ -146,6 +153,7 @@ impl RevisedBranch {
         effort: &mut Effort,
     ) -> Result<(), AllocError>
         requires dictionary { IsUnderWay system.now dictionary }
+        requires holds { NoneNegativeAt system.now dictionary }
         requires branch { IsRevisedBranch system.now.rows self.old }
         ensures { IfOk result (λ done. IsRevisedBranch system.now.rows self.new) }
     {

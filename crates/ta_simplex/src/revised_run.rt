@@ -3,8 +3,9 @@
 
 ghost use Rattle.std.specs.Prelude.{ℕ, ◌<◌, ◌^◌, IfOk, IfSome};
 ghost use Rattle.ta_dense.specs.Slack.{variables};
+ghost use Rattle.ta_revised.specs.Negative.{FirstHold};
 ghost use Rattle.ta_revised.specs.ShortRows.{AreShort};
-ghost use Rattle.ta_simplex.specs.RevisedRuns.{HasRun, IsStep, IsUnderWay};
+ghost use Rattle.ta_simplex.specs.RevisedRuns.{Begins, HasRun, IsStep, IsUnderWay};
 
 use crate::End;
 use crate::revised_ends::{revised_multipliers, revised_vertex};
@@ -14,6 +15,13 @@ use ta_revised::{RevisedDictionary, ShortRows};
 
 /// So many pivots are made before a run is given up. Most runs have some hundred.
 const MOST_PIVOTS: usize = 1_000_000;
+
+/// The dictionary with which a run begins. The first rows of the system hold at it, so many.
+#[derive(Drop)]
+pub struct Beginning {
+    pub(crate) dictionary: RevisedDictionary,
+    pub(crate) hold: usize,
+}
 
 /// What a run came to, the dictionary at which it ended, and how many pivots it made.
 #[derive(Drop)]
@@ -32,23 +40,25 @@ pub(crate) enum Step {
     GivenUp,
 }
 
-// The next pivot of the rule, or the end.
+// The next pivot of the rule, or the end. The first rows hold, so many.
 fn next_step(
     alloc: Global,
     system: &System,
     rows: &ShortRows,
     dictionary: RevisedDictionary,
+    hold: usize,
     pivots: usize,
 ) -> Result<Step, AllocError>
     requires room { variables system.now < 2 ^ 32 }
     requires rows { AreShort rows.now system.now.rows }
     requires under_way { IsUnderWay system.now dictionary }
+    requires hold { FirstHold system.now dictionary hold }
     ensures { IfOk result (IsStep system.now) }
 {
     let Some(scale) = dictionary.scale() else {
         return Ok(Step::GivenUp);
     };
-    let Some(variable) = dictionary.leaving(alloc, system, rows, scale)? else {
+    let Some(variable) = dictionary.leaving(alloc, system, rows, scale, hold)? else {
         let values = revised_vertex(alloc, system, &dictionary)?;
         return Ok(Step::Ended(Ran {
             end: End::Vertex(values),
@@ -79,17 +89,23 @@ pub(crate) fn run_revised(
     alloc: Global,
     system: &System,
     rows: &ShortRows,
-    first: RevisedDictionary,
+    first: Beginning,
 ) -> Result<Option<Ran>, AllocError>
     requires room { variables system.now < 2 ^ 32 }
     requires rows { AreShort rows.now system.now.rows }
-    requires under_way { IsUnderWay system.now first }
+    requires begins { Begins system.now first }
     ensures { IfOk result (λ o. IfSome o (HasRun system.now)) }
 {
-    let mut dictionary = first;
+    let Beginning {
+        mut dictionary,
+        mut hold,
+    } = first;
     for pivots in 0..MOST_PIVOTS {
-        match next_step(alloc, system, rows, dictionary, pivots)? {
-            Step::Pivoted(next) => dictionary = next,
+        match next_step(alloc, system, rows, dictionary, hold, pivots)? {
+            Step::Pivoted(next) => {
+                dictionary = next;
+                hold = 0;
+            }
             Step::Ended(ran) => return Ok(Some(ran)),
             Step::GivenUp => return Ok(None),
         }

@@ -14,7 +14,11 @@ returns-in_default-2 c =
     let d = c.args.dictionary in
     let w = c.requires.under_way in
     let none = subst (LeavingIs c.in-Some.scale s d) c.in_default-2.is c.in_ok-variable.ensures in
-    record { ended = vertex_end revised_laws s d c.in-Some.scale c.in_ok-values.values w c.in-Some.ensures.scale none c.in_ok-values.ensures; under_way = w }
+    record {
+      ended = vertex_end revised_laws s d c.in-Some.scale c.in_ok-values.values w c.in-Some.ensures.scale none c.in_ok-values.ensures;
+      under_way = w;
+      holds = record { scale = c.in-Some.scale; values = none.values; is = c.in-Some.ensures.scale; are = none.are; none = none.least };
+    }
 
 pub revised_multipliers-requires-clause-stuck : goal.revised_multipliers-requires-clause-stuck
 revised_multipliers-requires-clause-stuck c =
@@ -44,6 +48,7 @@ returns-in_default-entering c =
     record {
       ended = refuted_end s d r row c.in_ok-multipliers.multipliers w stuck (c.in_ok-multipliers.ensures w.tableau row stuck);
       under_way = w;
+      holds = tt;
     }
 
 pub returns-in-Some-4 : goal.returns-in-Some-4

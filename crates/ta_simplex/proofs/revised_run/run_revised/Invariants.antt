@@ -1,5 +1,9 @@
+use Rattle.ta_revised.specs.Negative.{FirstHold}
 use Rattle.ta_simplex.specs.RevisedRuns.{IsUnderWay}
 use Rattle.ta_simplex.proofs.revised_run.run_revised.Given as goal
 
 abbrev pub invariant-loop-pivots : goal.invariant-loop-pivots
-invariant-loop-pivots l = IsUnderWay l.system l.dictionary
+invariant-loop-pivots l = record {
+  under_way : IsUnderWay l.system l.dictionary;
+  hold : FirstHold l.system l.dictionary l.hold;
+}

@@ -1,13 +1,16 @@
-use Rattle.std.proofs.Common.{List, length, sym, ◌∙◌, subst}
+use Rattle.std.proofs.Common.{ℕ, ◌<◌, arith, List, length, sym, ◌∙◌, subst}
 use Rattle.std.proofs.lemmas.List.Elements.{All-drop}
 use Rattle.ta_linear.specs.declared.row.Row.{Row}
 use Rattle.ta_revised.specs.Modest.{AreModestRows, IsModestRow}
 use Rattle.ta_dense.specs.Tableau.{Tableau}
+use Rattle.ta_revised.proofs.GrownHolds.{grown_holds}
+use Rattle.ta_revised.specs.Negative.{FirstHold}
+use Rattle.ta_revised.specs.Revised.{grown}
 use Rattle.ta_simplex.specs.RevisedRuns.{IsUnderWay}
 use Rattle.ta_revised.proofs.RevisedLaws.{revised_laws}
 use Rattle.ta_simplex.proofs.RevisedGrowth.{under_way_first, may_grow, under_way_grown}
 use Rattle.ta_simplex.proofs.RevisedBranchLemmas.{last_revised}
-use Rattle.ta_simplex.proofs.revised_branch.RevisedBranch.first_dictionary.Goals as goal
+use Rattle.ta_simplex.proofs.revised_branch.RevisedBranch.beginning.Goals as goal
 
 pub grown-requires-clause-more : goal.grown-requires-clause-more
 grown-requires-clause-more c =
@@ -34,7 +37,11 @@ pub returns-in_ok-first-in-None-clause-first : goal.returns-in_ok-first-in-None-
 returns-in_ok-first-in-None-clause-first c =
     let all = rw c.if-not-branch.false at c.in_ok-extend.ensures.all in
     let modest = subst (λ (rs : List Row). AreModestRows rs) c.as_slice.ensures all.modest in
-    subst (λ (d : Tableau). IsUnderWay c.args.system.now d) (sym c.in_ok-first-in-None.ensures) (under_way_first revised_laws c.args.system.now modest)
+    record {
+      under_way = subst (λ (d : Tableau). IsUnderWay c.args.system.now d) (sym c.in_ok-first-in-None.ensures)
+          (under_way_first revised_laws c.args.system.now modest);
+      hold = λ scale values is are i h. absurd (omega arith);
+    }
 
 pub returns-in_ok-grown-in-Some-clause-first : goal.returns-in_ok-grown-in-Some-clause-first
 returns-in_ok-grown-in-Some-clause-first c =
@@ -43,6 +50,11 @@ returns-in_ok-grown-in-Some-clause-first c =
     c.requires.branch.systems c.requires.fits.1 in
     let all = rw c.if-not-branch.false at c.in_ok-extend.ensures.all in
     let modest = subst (λ (rs : List Row). AreModestRows rs) c.as_slice.ensures all.modest in
-    subst (λ (d : Tableau). IsUnderWay c.args.system.now d) (sym c.in_ok-grown-in-Some.ensures)
-    (under_way_grown revised_laws last.shorter c.args.system.now c.in-Some.last.now.dictionary last.begins last.under_way
-    (All-drop IsModestRow (length last.shorter.rows) c.args.system.now.rows modest))
+    record {
+      under_way = subst (λ (d : Tableau). IsUnderWay c.args.system.now d) (sym c.in_ok-grown-in-Some.ensures)
+          (under_way_grown revised_laws last.shorter c.args.system.now c.in-Some.last.now.dictionary last.begins last.under_way
+          (All-drop IsModestRow (length last.shorter.rows) c.args.system.now.rows modest));
+      hold = subst (λ (d : Tableau). FirstHold c.args.system.now d c.in-Some.last.now.rows) (sym c.in_ok-grown-in-Some.ensures)
+          (subst (λ (n : ℕ). FirstHold c.args.system.now (grown c.in-Some.last.now.dictionary c.args.system.now.unknowns) n) last.count
+          (grown_holds last.shorter c.args.system.now last.under_way.tableau c.in-Some.last.now.dictionary last.begins.rows last.under_way.revised last.holds));
+    }
