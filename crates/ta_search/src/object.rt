@@ -1,11 +1,13 @@
 //! The end of a search as a line of JSON.
 #![tactic(auto)]
 
-ghost use Rattle.std.specs.Prelude.{◌≡◌, ◌++◌, IfOk, OnOk, map};
-ghost use Rattle.serde_json.specs.Data.{array, string};
+ghost use Rattle.std.specs.Prelude.{◌≡◌, ◌++◌, IfOk, OnOk, codes, map};
+ghost use Rattle.serde_json.specs.Data.{array, member, object, string};
 ghost use Rattle.serde_json.specs.View.{view};
 ghost use Rattle.ta_report.specs.Faults.{file_fault_text};
+ghost use Rattle.ta_report.specs.Json.{verdict_member};
 ghost use Rattle.ta_search.specs.Inside.Objects.{choice_list};
+ghost use Rattle.ta_search.specs.declared.outcome.Outcome.TheVariants.{Refused, SampleUnknown, Unknown, Unsafe};
 ghost use Rattle.ta_search.specs.SearchJson.{choice_data, found_word, hole_data, outcome_data, search_data, search_json, search_told, tried_data, tries_data, unsafe_data};
 
 use crate::outcome::{Outcome, SearchEnd, Tried};
@@ -15,8 +17,8 @@ use serde_json::{Value, json};
 use std::alloc::{AllocError, Global};
 use ta_base::Text;
 use ta_report::{
-    digits_value, file_fault_phrase, json_line, lines_value, unknown_sample_value,
-    unknown_verdict_value,
+    ReportSample, Verdict, digits_value, file_fault_phrase, json_line, lines_value,
+    unknown_sample_value, unknown_verdict_value,
 };
 use ta_syntax::FileFault;
 
@@ -121,26 +123,80 @@ fn outcome_value(alloc: Global, values: Value, outcome: &Outcome) -> Result<Valu
     ensures { IfOk result (λ value. view value ≡ outcome_data outcome.now (view values)) }
 {
     match outcome {
-        Outcome::Long => json!(in alloc; {"values": values, "verdict": "long"}),
-        Outcome::Refused(fault) => {
-            let fault = fault_value(alloc, fault)?;
-            json!(in alloc; {"fault": fault, "values": values, "verdict": "refused"})
-        }
-        Outcome::Empty => json!(in alloc; {"values": values, "verdict": "no parameters"}),
-        Outcome::SampleUnknown(sample) => {
-            let parameters = unknown_sample_value(alloc, sample)?;
-            json!(in alloc; {"parameters": parameters, "values": values, "verdict": "unknown"})
-        }
+        Outcome::Long => bare_value(alloc, values, "long"),
+        Outcome::Refused(fault) => refused_value(alloc, values, fault),
+        Outcome::Empty => bare_value(alloc, values, "no parameters"),
+        Outcome::SampleUnknown(sample) => no_sample_value(alloc, values, sample),
         Outcome::Unsafe { pattern, run } => {
-            let pattern = unsafe_value(alloc, pattern.as_str(), run.as_str())?;
-            json!(in alloc; {"pattern": pattern, "values": values, "verdict": "unsafe"})
+            unsafe_outcome_value(alloc, values, pattern.as_str(), run.as_str())
         }
         Outcome::Unknown { pattern, verdict } => {
-            let pattern = unknown_verdict_value(alloc, pattern.as_str(), verdict)?;
-            json!(in alloc; {"pattern": pattern, "values": values, "verdict": "unknown"})
+            unknown_outcome_value(alloc, values, pattern.as_str(), verdict)
         }
-        Outcome::Safe { .. } => json!(in alloc; {"values": values, "verdict": "safe"}),
+        Outcome::Safe { .. } => bare_value(alloc, values, "safe"),
     }
+}
+
+/// An outcome without anything that decides it but its word.
+fn bare_value(alloc: Global, values: Value, word: &str) -> Result<Value, AllocError>
+    ensures { IfOk result (λ value. view value ≡ object (member (codes "values") (view values) (verdict_member word.now))) }
+{
+    json!(in alloc; {"values": values, "verdict": word})
+}
+
+/// That the filled text isn't a legal file.
+fn refused_value(alloc: Global, values: Value, fault: &FileFault) -> Result<Value, AllocError>
+    ensures { IfOk result (λ value. view value ≡ outcome_data (Refused fault.now) (view values)) }
+{
+    let fault = fault_value(alloc, fault)?;
+    json!(in alloc; {"fault": fault, "values": values, "verdict": "refused"})
+}
+
+/// That no parameters were found, and why.
+fn no_sample_value(alloc: Global, values: Value, sample: &ReportSample) -> Result<Value, AllocError>
+    ensures { IfOk result (λ value. view value ≡ outcome_data (SampleUnknown sample.now) (view values)) }
+{
+    let parameters = unknown_sample_value(alloc, sample)?;
+    json!(in alloc; {"parameters": parameters, "values": values, "verdict": "unknown"})
+}
+
+/// That a pattern is unsafe.
+fn unsafe_outcome_value(
+    alloc: Global,
+    values: Value,
+    name: &str,
+    run: &str,
+) -> Result<Value, AllocError>
+    ensures { IfOk result (λ value. view value ≡ outcome_data (Unsafe name.now run.now) (view values)) }
+{
+    let pattern = unsafe_value(alloc, name, run)?;
+    decided_value(alloc, values, pattern, "unsafe")
+}
+
+/// That a pattern is unknown.
+fn unknown_outcome_value(
+    alloc: Global,
+    values: Value,
+    name: &str,
+    verdict: &Verdict,
+) -> Result<Value, AllocError>
+    ensures { IfOk result (λ value. view value ≡ outcome_data (Unknown name.now verdict.now) (view values)) }
+{
+    let pattern = unknown_verdict_value(alloc, name, verdict)?;
+    decided_value(alloc, values, pattern, "unknown")
+}
+
+/// An outcome that a pattern decides.
+fn decided_value(
+    alloc: Global,
+    values: Value,
+    pattern: Value,
+    word: &str,
+) -> Result<Value, AllocError>
+    ensures { IfOk result (λ value. view value ≡
+        object (member (codes "pattern") (view pattern) (member (codes "values") (view values) (verdict_member word.now)))) }
+{
+    json!(in alloc; {"pattern": pattern, "values": values, "verdict": word})
 }
 
 /// The words for a file's error.

@@ -94,7 +94,11 @@ fn text_outcome<R: Threads + Sync>(
         return Ok(Outcome::Long);
     }
     match read_file(alloc, bytes, &terms.limits) {
-        Ok(scoped) => file_outcome(rt, alloc, &scoped, terms),
+        Ok(scoped) => {
+            let outcome = file_outcome(rt, alloc, &scoped, terms);
+            drop(scoped);
+            outcome
+        }
         Err(FileFault::Memory) => Err(AllocError),
         Err(fault) => Ok(Outcome::Refused(fault)),
     }

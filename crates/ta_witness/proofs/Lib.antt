@@ -15,6 +15,7 @@ pub mod LastMark
 pub mod Once
 mod Giving
 mod RestCommon
+mod Mapped
 mod Listing
 mod Firing
 mod Walking

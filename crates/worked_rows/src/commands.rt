@@ -103,12 +103,10 @@ fn perform_over<R: Threads + Sync, S: Shelf + Drop>(
     rest: &str,
     noted: bool,
 ) -> Result<(), AllocError> {
-    let alloc = given.alloc;
-    let words = words_of(alloc, rest)?;
-    let (mut out, mut err) = sinks_of(alloc, setting_of(rest))?;
-    let number = run(rt, alloc, words.as_slice(), shelf, &mut out, &mut err);
-    say_lines(given, "", out.as_slice());
-    say_error(given, files, err.as_slice());
+    let words = words_of(given.alloc, rest)?;
+    let ended = say_run(rt, given, files, shelf, words.as_slice(), setting_of(rest));
+    drop(words);
+    let number = ended?;
     if noted {
         given.say("@");
         given.add(&shelf.noted);
@@ -116,6 +114,22 @@ fn perform_over<R: Threads + Sync, S: Shelf + Drop>(
     }
     given.number("=> ", number);
     Ok(())
+}
+
+/// Writes what a run of `tav` puts out.
+fn say_run<R: Threads + Sync, S: Shelf + Drop>(
+    rt: &R,
+    given: &mut Given,
+    files: &Files,
+    shelf: &mut Noting<S>,
+    words: &[&str],
+    setting: Setting,
+) -> Result<u8, AllocError> {
+    let (mut out, mut err) = sinks_of(given.alloc, setting)?;
+    let number = run(rt, given.alloc, words, shelf, &mut out, &mut err);
+    say_lines(given, "", out.as_slice());
+    say_error(given, files, err.as_slice());
+    Ok(number)
 }
 
 /// What words give where a file goes on with spaces behind its text, up to so many bytes, which are
@@ -184,16 +198,22 @@ fn cuts_of<R: Threads + Sync>(
     for length in 0..whole.len() {
         files.set(given.alloc, name, whole.get(..length).unwrap_or(""))?;
         let mut answer = Given::new(given.alloc);
-        perform(rt, &mut answer, files, words, false)?;
-        if answer.as_str() != last.as_str() {
-            given.number("from ", length);
-            given.say("\n");
-            given.add(&answer);
-            given.say("\n");
-            last = answer;
-        }
+        let ended = perform(rt, &mut answer, files, words, false);
+        say_change(given, length, answer, &mut last);
+        ended?;
     }
     Ok(())
+}
+
+/// Writes an answer, unless it is the last one; then it is that.
+fn say_change(given: &mut Given, length: usize, answer: Given, last: &mut Given) {
+    if answer.as_str() != last.as_str() {
+        given.number("from ", length);
+        given.say("\n");
+        given.add(&answer);
+        given.say("\n");
+        *last = answer;
+    }
 }
 
 /// The files, on a shelf. Where two have one name, which `Files` prevents, memory is said to have run out.

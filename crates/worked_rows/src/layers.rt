@@ -24,7 +24,11 @@ pub fn of_file<R: Threads + Sync>(
 ) -> Result<(), AllocError> {
     let (name, rest) = cut(rest);
     match scoped(given.alloc, files, name) {
-        Some(scoped) => of_scoped(rt, given, &scoped, what, rest),
+        Some(scoped) => {
+            let ended = of_scoped(rt, given, &scoped, what, rest);
+            drop(scoped);
+            ended
+        }
         None => given.end("no such file"),
     }
 }

@@ -1,7 +1,10 @@
 use Rattle.ta_program.proofs.Common.{◌≡◌, ◌∙◌, ◌+◌, ◌++◌, List, ℕ, Err, sym, ap, subst, inr, drop, take, take_all, IsCertified, IsExactCheck, Subject}
-use Rattle.ta_program.proofs.Common.{CheckerStandsFor, concat}
+use Rattle.ta_program.proofs.Common.{CertificateFor, CheckerStandsFor, claiming, concat}
 use Rattle.ta_base.proofs.Lists.{concat_next}
 use Rattle.ta_program.proofs.Benching.{feed_memory, finish_memory, split_pieces}
+use Rattle.ta_base.specs.LimitRows.{narrow}
+use Rattle.ta_base.specs.declared.limits.Limits.{Limits}
+use Rattle.ta_rest.specs.declared.claim.Claim.TheVariants.{Safe}
 use Rattle.ta_program.proofs.bench.accept.Goals as goal
 
 pub feed-requires : goal.feed-requires
@@ -42,3 +45,21 @@ certificate_memory-requires-in-Err-finish c =
     (subst (λ (s : Subject). IsExactCheck s text (Err c.in-Err-finish.fault)) c.loop-piece.invariant.subject
     (c.in-Err-finish.ensures.exact text c.loop-piece.invariant.stands))
     (subst (λ (t : List ℕ). IsCertified c.args.scoped.now.file t) (sym all) c.requires)
+
+pub loop-piece-init : goal.loop-piece-init
+loop-piece-init c = record {
+  stands = c.new-checker.ensures.stands;
+  subject = c.new-checker.ensures.subject ∙ ap (λ (l : Limits). claiming Safe c.args.scoped.now.file l.line_bytes) c.narrow.ensures;
+}
+
+pub returns-in-Ok-finish : goal.returns-in-Ok-finish
+returns-in-Ok-finish c =
+    let here = c.loop-piece.invariant in
+    let text = concat (take c.loop-piece.piece-index c.args.pieces.now) in
+    let numbers = c.in-Ok-finish.accepted.patterns in
+    let all = ap concat (take_all c.loop-piece.piece-index c.args.pieces.now c.loop-piece-test.false) in
+    subst (λ (t : List ℕ). CertificateFor (claiming Safe c.args.scoped.now.file narrow.line_bytes) t numbers) all
+    (subst (λ (s : Subject). CertificateFor s text numbers) here.subject (c.in-Ok-finish.ensures.answer text here.stands))
+
+pub finish-requires : goal.finish-requires
+finish-requires c = inr (_, c.loop-piece.invariant.stands)

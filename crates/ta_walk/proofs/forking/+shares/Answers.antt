@@ -66,3 +66,15 @@ visit_on-returns-in_ok-part-in-Shared-clause-counted g t c =
     (counted_shared n c.args.watch.forks count c.in-Shared.leaves part.end c.new-work.result.begun c.visit_stretch.new.work.begun part.begun
     c.add.new.self.begun c.requires.limit c.new-work.ensures
     small.within counted c.in_ok-part-in-Shared.ensures.counted c.add.ensures)
+
+pub visit_shared-returns-clause-small : goal.visit_shared-returns-clause-small
+visit_shared-returns-clause-small g t c = c.merge_both.ensures.small
+
+pub visit_on-returns-in_ok-part-in-Shared-clause-small : goal.visit_on-returns-in_ok-part-in-Shared-clause-small
+visit_on-returns-in_ok-part-in-Shared-clause-small g t c = c.end_behind.ensures.small
+
+pub visit_on-returns-in-Ended-clause-small : goal.visit_on-returns-in-Ended-clause-small
+visit_on-returns-in-Ended-clause-small g t c = rw c.in-Ended.is at c.in_ok-end.ensures.small
+
+pub visit_on-returns-in-Ended-clause-patient : goal.visit_on-returns-in-Ended-clause-patient
+visit_on-returns-in-Ended-clause-patient g t c = λ patient. rw c.in-Ended.is at (c.in_ok-end.ensures.patient patient)

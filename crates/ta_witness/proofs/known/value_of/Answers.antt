@@ -1,4 +1,6 @@
-use Rattle.ta_witness.proofs.Common.{arith, sym, ◌∙◌, ints}
+use Rattle.ta_witness.proofs.Common.{◌<◌, ◌≤ℤ◌, FitsSigned, ℤ, arith, get_or, length, pos, refl, rules, sym, to_z-of_z, w128, ◌∙◌, ints}
+use Rattle.ta_base.proofs.Each.{each_at}
+use Rattle.ta_moments.proofs.Common.{slice_get-get_or}
 use Rattle.ta_witness.proofs.Making.{look_next, look_found, look_end}
 use Rattle.ta_witness.proofs.known.value_of.Goals as goal
 
@@ -14,3 +16,22 @@ loop-number-preserved c = look_next c.args.meanings.now c.args.values.now c.args
 
 pub returns-clause-is : goal.returns-clause-is
 returns-clause-is c = look_end c.args.meanings.now c.args.values.now c.args.meaning c.loop-number.number _ c.loop-number-test.false c.loop-number.invariant
+
+pub returns-then-is_same-clause-natural : goal.returns-then-is_same-clause-natural
+returns-then-is_same-clause-natural c =
+    let values = c.args.values.now in
+    let n = c.loop-number.number in
+    let z = get_or values n (pos 0) in
+    let within : n < length values = omega arith in
+    let fits : FitsSigned w128 z = search rules in
+    let low = each_at (λ (v : ℤ). pos 0 ≤ℤ v) values n z c.requires.natural (slice_get-get_or values n (pos 0) within) in
+    simp to_z-of_z record { natural = low; fits = omega (arith, ints) }
+
+pub returns-clause-natural : goal.returns-clause-natural
+returns-clause-natural c = record { natural = omega (arith, ints); fits = omega arith }
+
+pub bounds-values-number : goal.bounds-values-number
+bounds-values-number c = omega arith
+
+pub loop-number-init : goal.loop-number-init
+loop-number-init c = refl

@@ -1,4 +1,7 @@
-use Rattle.ta_witness.proofs.Common.{rules, ◌<ℤ◌, ◌^◌, pos, arith, get_or, FitsSigned, w128, to_z-of_z, ints}
+use Rattle.ta_witness.proofs.Common.{◌∙◌, ◌++◌, ap, subst, ℕ, ℤ, List, map, take_all, AllByRecursion, step_line, rules, ◌<ℤ◌, ◌^◌, pos, arith, get_or}
+use Rattle.ta_witness.proofs.Common.{FitsSigned}
+use Rattle.ta_witness.proofs.Common.{w128, to_z-of_z, ints}
+use Rattle.std.proofs.lemmas.Result.{IfOk-from_err}
 use Rattle.ta_witness.proofs.Making.{steps_push}
 use Rattle.ta_witness.proofs.lines.push_steps.Goals as goal
 
@@ -10,3 +13,19 @@ loop-step-preserved c =
     let items = simp to_z-of_z at c.in_ok-push.ensures.items in
     steps_push c.args.steps.now c.loop-step.step-index (0, pos 0) c.args.lines.now.items c.loop-step.lines.items c.push.new.self.items c.loop-step-test.true
     c.loop-step.invariant items below
+
+pub returns-clause-added : goal.returns-clause-added
+returns-clause-added c =
+    c.loop-step.invariant.0
+    ∙ ap (λ (xs : List (ℕ × ℤ)). c.args.lines.now.items ++ map step_line xs) (take_all c.loop-step.step-index c.args.steps.now c.loop-step-test.false)
+
+pub returns-clause-fit : goal.returns-clause-fit
+returns-clause-fit c =
+    subst (AllByRecursion (λ (step : ℕ × ℤ). step.1 <ℤ pos (2 ^ 127))) (take_all c.loop-step.step-index c.args.steps.now c.loop-step-test.false)
+    c.loop-step.invariant.1
+
+pub returns-in_err-push-clause-added : goal.returns-in_err-push-clause-added
+returns-in_err-push-clause-added c = IfOk-from_err c.from_residual.result _ c.from_residual.ensures.0
+
+pub returns-in_err-push-clause-fit : goal.returns-in_err-push-clause-fit
+returns-in_err-push-clause-fit c = IfOk-from_err c.from_residual.result _ c.from_residual.ensures.0

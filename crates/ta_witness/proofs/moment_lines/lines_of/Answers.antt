@@ -1,11 +1,21 @@
 use Rattle.ta_moments.proofs.Common.{◌≡◌, ◌∙◌, ◌+◌, ◌++◌, ◌∷◌, [], pos, ◌≤ℤ◌, ℤ, List, Some, length, sym, ap, subst, slice_get-get_or, AllByRecursion}
 use Rattle.std.specs.Prelude.{take}
-use Rattle.std.proofs.lemmas.List.{take_more}
+use Rattle.std.proofs.lemmas.List.{take_all, take_more}
 use Rattle.ta_base.proofs.Each.{each_at}
 use Rattle.ta_witness.specs.Inside.StopLines.{AddsStop, AddsStops, StopFits, last_counts}
 use Rattle.ta_witness.specs.declared.stop.Stop.{Stop}
 use Rattle.ta_witness.proofs.Lining.{last_more, stops_more}
 use Rattle.ta_witness.proofs.moment_lines.lines_of.Goals as goal
+use Rattle.ta_witness.proofs.moment_lines.lines_of.Goals.{After-as_slice-after}
+
+-- the stop at hand has all counts, and its event exists
+stop_fits : (c : After-as_slice-after) → StopFits c.args.scoped.now.file.automaton c.args.pattern.now c.stop-item.result
+stop_fits c =
+    let stops = c.args.stops.now in
+    let i = c.loop-stop.stop-index in
+    let x = c.stop-item.result in
+    each_at (StopFits c.args.scoped.now.file.automaton c.args.pattern.now) stops i x c.requires.stops
+    (slice_get-get_or stops i x c.loop-stop-test.true ∙ ap Some (sym c.stop-item.is))
 
 pub loop-stop-preserved : goal.loop-stop-preserved
 loop-stop-preserved c =
@@ -29,3 +39,23 @@ loop-stop-preserved c =
       ap (λ (zs : List ℤ). length zs) value ∙ fits.rules,
       subst (AllByRecursion (λ z. pos 0 ≤ℤ z)) (sym value) fits.natural,
     )
+
+pub push_stop-requires-clause-same : goal.push_stop-requires-clause-same
+push_stop-requires-clause-same c =
+    c.loop-stop.invariant.2 ∙ sym (stop_fits (goal.at.push_stop-requires-clause-same c).After-as_slice-after).rules
+    ∙ sym (ap (λ (zs : List ℤ). length zs) c.as_slice-after.ensures.value)
+
+pub push_stop-requires-clause-rules : goal.push_stop-requires-clause-rules
+push_stop-requires-clause-rules c =
+    ap (λ (zs : List ℤ). length zs) c.as_slice-after.ensures.value ∙ (stop_fits (goal.at.push_stop-requires-clause-rules c).After-as_slice-after).rules
+
+pub push_stop-requires-clause-natural : goal.push_stop-requires-clause-natural
+push_stop-requires-clause-natural c = c.loop-stop.invariant.3
+
+pub push_stop-requires-clause-event : goal.push_stop-requires-clause-event
+push_stop-requires-clause-event c = (stop_fits (goal.at.push_stop-requires-clause-event c).After-as_slice-after).event
+
+pub returns : goal.returns
+returns c =
+    subst (λ (xs : List Stop). AddsStops c.args.scoped.now.file.automaton c.args.pattern.now c.args.first.now xs [] c.loop-stop.lines.items)
+    (take_all c.loop-stop.stop-index c.args.stops.now c.loop-stop-test.false) c.loop-stop.invariant.0
