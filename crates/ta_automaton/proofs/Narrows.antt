@@ -12,13 +12,3 @@ narrow_within a within = record {
   fall = within.fall;
   rules = within.rules;
 }
-
-pub within_narrow : (a : Automaton) → IsNarrow a → IsWithin narrow a
-within_narrow a few = record {
-  parameters = few.parameters;
-  shared = few.shared;
-  locations = few.locations;
-  rise = few.rise;
-  fall = few.fall;
-  rules = few.rules;
-}

@@ -12,13 +12,6 @@ pub implies-at : (x y : Bool) → implies x y ≡ true → x ≡ true → y ≡ 
 implies-at true y h e = h
 implies-at false y h e = absurd (false≢true e)
 
--- a test of tests
-pub beq_true : (b d : Bool) → beq b d ≡ true → b ≡ d
-beq_true true true e = refl
-beq_true true false e = absurd (false≢true e)
-beq_true false true e = absurd (false≢true e)
-beq_true false false e = refl
-
 -- a line that ended
 pub place_is : (b d : Bool) → beq b d ≡ false → b ≡ not d
 place_is true true n = absurd (false≢true (sym n))

@@ -173,13 +173,6 @@ pub multiplier_number : (z : ℤ) (x rest : List ℕ) → pos 1 ≤ℤ z → z <
 multiplier_number (pos k) x rest low high e = (k, omega (arith, ints), omega (arith, ints), e, refl)
 multiplier_number (negsuc k) x rest low high e = absurd (omega (arith, ints))
 
--- a floor is determined by its text
-pub floor_same : (f g : ℤ) → pos 0 ≤ℤ f → f <ℤ pos (2 ^ 126) → pos 0 ≤ℤ g → g <ℤ pos (2 ^ 126) → signed_decimal f ≡ signed_decimal g → f ≡ g
-floor_same f g low high least most e =
-    let texts = ap signed_decimal (abs_natural f low) ∙ e ∙ sym (ap signed_decimal (abs_natural g least)) in
-    let same = decimal_same (2 ^ 126) (unsigned_abs f) (unsigned_abs g) (lit≤ tt) (omega (arith, ints)) (omega (arith, ints)) texts in
-    omega (arith, ints)
-
 -- two guards are determined by their text
 pub guards_same : (j h i g : ℕ) → j < 2 ^ 32 → h < 2 ^ 32 → i < 2 ^ 32 → g < 2 ^ 32 → decimal j ++ (32 ∷ decimal i) ≡ decimal h ++ (32 ∷ decimal g) → (j ≡ h)
     × (i ≡ g)

@@ -126,10 +126,6 @@ if_zero a x z e = grind (arith, ints, nat_tests)
 pub times_if : (factor z product : ℤ) (a x : ℕ) → product ≡ (factor *ℤ z) → cond (eqb a x) product (pos 0) ≡ (factor *ℤ cond (eqb a x) z (pos 0))
 times_if factor z product a x is = grind (arith, ints, nat_tests, *ℤ-zero)
 
--- a floor is natural
-pub floor_is : (f : ℤ) → pos 0 ≤ℤ f → f <ℤ pos (2 ^ 126) → (k : ℕ) × (f ≡ pos k) × (k < 2 ^ 126)
-floor_is f low high = (unsigned_abs f, sym (abs_natural f low), omega (arith, ints))
-
 -- a whole number as a natural one
 abbrev pub natural : ℤ → ℕ
 natural (pos n) = n
@@ -200,9 +196,6 @@ minus_one_times x = omega (arith, ints)
 
 pub less_small : (c : ℤ) (n : ℕ) → unsigned_abs c ≤ n → unsigned_abs (pos 0 -ℤ c) ≤ n
 less_small c n h = omega (arith, ints)
-
-pub less_both : (f g l k s n z : ℤ) → f ≡ (g +ℤ n) → n ≡ (negsuc 0 *ℤ s) → s ≡ (l +ℤ k) → k ≡ z → f ≡ ((g -ℤ l) -ℤ z)
-less_both f g l k s n z a b c d = omega (arith, ints, a, b ∙ minus_one_times s, c, d)
 
 pub less_one : (f g l k s n : ℤ) → f ≡ (g +ℤ n) → n ≡ (negsuc 0 *ℤ s) → s ≡ (l +ℤ k) → k ≡ pos 0 → f ≡ (g -ℤ l)
 less_one f g l k s n a b c d = omega (arith, ints, a, b ∙ minus_one_times s, c, d)
@@ -278,11 +271,6 @@ unsigned_abs-neg z = omega (arith, ints)
 pub quotient_le : (z : ℤ) (g : ℕ) → unsigned_abs (int_div z (pos g)) ≤ unsigned_abs z
 quotient_le (pos a) g = div-le_self a g
 quotient_le (negsuc a) g = rw (unsigned_abs-neg (pos (suc a / g))) (div-le_self (suc a) g)
-
--- smaller factors show as much
-pub factors_below : (c a : ℤ) (g b d : ℕ) → unsigned_abs c * b + unsigned_abs a * d < 2 ^ 31
-    → unsigned_abs (int_div c (pos g)) * b + unsigned_abs (int_div a (pos g)) * d < 2 ^ 31
-factors_below c a g b d h = omega (arith, mul-le-mul_right b (quotient_le c g), mul-le-mul_right d (quotient_le a g))
 
 -- divisors of positive numbers of 32 bits
 pub abs_positive : (z : ℤ) → pos 0 <ℤ z → 0 < unsigned_abs z
@@ -453,14 +441,8 @@ order_is l r v e h = omega (arith, ints)
 pub order_back : (l r v : ℤ) → l ≡ (r +ℤ v) → pos 0 ≤ℤ v → r ≤ℤ l
 order_back l r v e h = omega (arith, ints)
 
-pub fits32 : (z : ℤ) (t : ℕ) → unsigned_abs z ≤ t → t < 2 ^ 31 → SFits w32 z
-fits32 z t h k = fits_signed_from_abs w32 z (omega arith)
-
 pub small_positive : (z : ℤ) → SFits w32 z → pos 0 <ℤ z → unsigned_abs z < 2 ^ 31
 small_positive z f h = omega (arith, ints, f)
-
-pub fits_more : (z : ℤ) → SFits w16 z → SFits w32 z
-fits_more z f = omega (arith, ints, f)
 
 pub zero_from_bits : (z : ℤ) → SFits w128 z → of_z w128 z ≡ 0 → z ≡ pos 0
 zero_from_bits z f e = omega (arith, ints, f)

@@ -100,9 +100,6 @@ pub regroup : {B : Type 0} (a b c d e s t u v w : B) (la lb lc ld le r : List B)
     (la ++ s ∷ b ∷ (lb ++ t ∷ c ∷ (lc ++ u ∷ d ∷ (ld ++ v ∷ e ∷ (le ++ w ∷ r)))))
 regroup a b c d e s t u v w la lb lc ld le r = simp append_assoc
 
-pub left_nested : {B : Type 0} (h a b c d e r q : List B) → ((((((h ++ a) ++ b) ++ c) ++ d) ++ e) ++ r) ++ q ≡ h ++ (a ++ (b ++ (c ++ (d ++ (e ++ (r ++ q))))))
-left_nested h a b c d e r q = simp append_assoc
-
 pub short_map : {A B : Type 0} (g : A → B) (xs : List A) (n : ℕ) → length xs ≤ n → length (map g xs) ≤ n
 short_map g xs n h = omega (arith, length-map xs g)
 
@@ -119,11 +116,6 @@ letter_word b h = grind (arith, nat_tests)
 pub begins_word : (bytes : List ℕ) → BeginsByLetter bytes → BeginsByLetter (take (prefix_len is_word bytes) bytes)
 begins_word [] h = h
 begins_word (b ∷ bs) h = rw (front_is is_word b bs (letter_word b h)) h
-
--- the floor is a number
-pub floor_number : (f : ℤ) (x : List ℕ) → pos 0 ≤ℤ f → f <ℤ pos (2 ^ 126) → x ≡ signed_decimal f → (k : ℕ) × IsDecimal (2 ^ 126) x k
-floor_number (pos k) x low high e = (k, record { text = e; below = omega (arith, ints) })
-floor_number (negsuc k) x low high e = absurd (omega (arith, ints))
 
 -- the text, its lines and what comes behind it
 pub whole_more : (text lines rest bytes : List ℕ) → text ≡ lines ++ rest → text ++ bytes ≡ lines ++ (rest ++ bytes)
@@ -791,9 +783,6 @@ five_parts a b c d e rest = simp append_assoc
 -- a piece and what follows it
 pub piece : {X : Type 0} (all a b x c : List X) → all ≡ a ++ b → a ≡ x → b ≡ c → all ≡ x ++ c
 piece all a b x c e f g = e ∙ ap (λ z. z ++ b) f ∙ ap (λ z. x ++ z) g
-
-pub one_piece : {X : Type 0} (all a b c : List X) (x : X) → all ≡ a ++ b → a ≡ x ∷ [] → b ≡ c → all ≡ x ∷ c
-one_piece all a b c x e f g = piece all a b (x ∷ []) c e f g
 
 -- lists that are no longer than another, by a test or by what was taken
 pub unless_most : {X : Type 0} (b : Bool) (xs : List X) (n : ℕ) → length xs ≤ n → length (cond b [] xs) ≤ n

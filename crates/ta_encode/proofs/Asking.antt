@@ -2,9 +2,9 @@
 use Rattle.ta_encode.proofs.Common.{◌≡◌, ◌∙◌, sym, refl, ap, subst, cond, false≢true, ℕ, List, Bool, true, false, None, Some, Option, Node, In, Search, MayAsk}
 use Rattle.ta_encode.proofs.Common.{Answers, asked, answered, all_or_none, only_extend, [], Automaton, Pattern, Element, is_complete, pattern_search}
 unfoldable use Rattle.ta_words.specs.Words.{children}
-use Rattle.ta_cert.specs.declared.line.Node.TheVariants as node
 use Rattle.std.specs.Option.{is_some}
 use Rattle.ta_base.specs.Lists.{Distinct}
+use Rattle.ta_cert.specs.declared.line.Node.TheVariants as node
 
 -- what may be asked has answers
 pub none_asked : {E : Type 0} (s : Search E) (start : ℕ) (past : List E) (n : Node) → MayAsk s start past n → asked s start past n ≡ None → ⊥

@@ -7,7 +7,8 @@ use Rattle.ta_encode.proofs.Common.{start_meanings, meanings, place_coefficient,
 use Rattle.ta_encode.proofs.Common.{condition_rows, start_guard_rows, start_rows, word_rows, sum_of_products, AllHold, total, total-zero, total-same}
 use Rattle.ta_encode.proofs.Common.{one_inside, terms_value-same, place_cases, value_at-parameter, value_at-shared, value_at-location, one_if-ne, one_if-shift}
 use Rattle.ta_encode.proofs.Common.{one_if-natural, Whole, fits_whole, resilience_at, processes_value as processes_at, in_filter, length-range_with_len}
-use Rattle.ta_base.proofs.Totals.{one_if-turned, total-items, total-naturals}
+use Rattle.ta_encode.proofs.Common.{total-items, total-naturals}
+use Rattle.ta_base.proofs.Totals.{one_if-turned}
 use Rattle.ta_encode.proofs.Combine.{combine-zero, combine-add, combine-minus, combine-terms}
 use Rattle.ta_encode.proofs.Moments.{opposite_value, AllHold-left}
 use Rattle.ta_encode.proofs.Start.{start_rises}

@@ -2,8 +2,7 @@
 use Rattle.ta_encode.proofs.Common.{◌≡◌, ℕ, zero, suc, ℤ, pos, ◌-ℤ◌, ◌+◌, ◌-◌, ◌<◌, ◌≤◌, List, [], ◌∷◌, ◌++◌, length, map, get_or, arith, sym, ap, ◌∙◌, refl}
 use Rattle.ta_encode.proofs.Common.{subst, length-append, length-map, after_zeros, before_block, coefficient, range_with_len, Bound, Side, Low, High, only_at}
 use Rattle.ta_encode.proofs.Common.{side_row, bound_row, coefficient_in_sense, block_row, bound_constant, bound_sense, Sense, Plain, Opposite, Negated, ints}
-use Rattle.ta_encode.proofs.Common.{map-id, at_number, length-range_with_len}
-use Rattle.ta_encode.specs.Inside.Sparse.{Sparse}
+use Rattle.ta_encode.proofs.Common.{map-id, at_number, length-range_with_len, Sparse}
 use Rattle.ta_encode.proofs.Sparse.{sparse_all}
 
 -- the coefficients of a block

@@ -1,23 +1,24 @@
 -- The names that the proofs of this crate cite, passed on from one place. Declares nothing.
 pub use Rattle.std.proofs.Common.{Bool, FitsSigned, IsBitSet, List, None, Option, Some, [], ap, append_assoc, arith, bit_or, cond, drop, eqb, false, get_or}
+pub use Rattle.std.proofs.Common.{replicate}
 pub use Rattle.std.proofs.Common.{inl, inr, length, length-append, map, negsuc, not, of_z, pos, refl, reverse, slice_get, subst, suc, sum, sym, take, to_z}
 pub use Rattle.std.proofs.Common.{true, unsigned_abs, zero, zero-add, ℕ, ℤ, ⊎_elim, ◌&&◌, ◌*ℤ◌, ◌*◌, ◌++◌, ◌+ℤ◌, ◌+◌, ◌-ℤ◌, ◌-◌, ◌<ℤ◌, ◌<◌, ◌^◌, ◌||◌, ◌∙◌, ◌∷◌}
 pub use Rattle.std.proofs.Common.{◌≡◌, ◌≢◌, ◌≤ℤ◌, ◌≤◌, ◌⊎◌}
-pub use Rattle.std.proofs.Math.IntN.{*ℤ-zero, zero-*ℤ}
+pub use Rattle.std.proofs.Math.IntN.{*ℤ-zero, zero-*ℤ, +ℤ_idr}
 pub use Rattle.std.proofs.Math.Seq.{take-add, take-length}
 pub use Rattle.std.proofs.lemmas.Bool.{and_from, and_parts, cases_Bool, cases_eq, cases_lt, cond_both, eq-eqb, eqb-false, eqb-true, false≢true, ltb-false}
-pub use Rattle.std.proofs.lemmas.Bool.{ne_eqb, not-false, not-true, not_from_false, or_cases, or_left, or_parts, or_right, true≢false}
+pub use Rattle.std.proofs.lemmas.Bool.{ne_eqb, not-false, not-true, not_from_false, or_cases, or_left, or_parts, or_right}
 pub use Rattle.std.proofs.lemmas.Bool.Decides.{eqb_tells, nat_tests}
 pub use Rattle.std.proofs.lemmas.Int.{fits_signed_mul, ints}
-pub use Rattle.std.proofs.lemmas.List.{append-nil, get_or-map, get_or-take, get_or_append_left, get_or_push, length-drop, length-map, length-reverse}
+pub use Rattle.std.proofs.lemmas.List.{append-nil, get_or-map, get_or-take, get_or_append_left, get_or_push, length-drop, length-map, length-reverse, take_all}
 pub use Rattle.std.proofs.lemmas.List.{length-take-le, map-append, map-id, reverse-append, reverse-reverse, take-append-drop, take-append-le, take-take}
 pub use Rattle.std.proofs.lemmas.List.{take_at, take_more}
 pub use Rattle.std.proofs.lemmas.List.Elements.{All-push, filter_agree}
 pub use Rattle.std.proofs.lemmas.List.FromFn.{length-range_with_len}
 pub use Rattle.std.proofs.lemmas.Option.{same_Some, slice_get-get_or, slice_get_past, slice_get_read, slice_get_within}
-pub use Rattle.std.proofs.lemmas.Result.{IfOk-weaker}
+pub use Rattle.std.proofs.lemmas.Result.{IfOk-weaker, on_ok_weaker}
 pub use Rattle.std.proofs.lemmas.Simd.{map-map}
-pub use Rattle.std.specs.Int.{bit_not, w128, w32}
+pub use Rattle.std.specs.Int.{bit_not, w128}
 pub use Rattle.std.specs.List.{All, AllByRecursion, range_with_len}
 pub use Rattle.std.specs.Prelude.{filter, flat_map, if◌then◌else◌, nat_lt, slice_index, slice_index_or, ◌==◌}
 pub use Rattle.ta_automaton.proofs.Fire.{Whole, fire, fire_step, fire_whole, fits_whole}
@@ -53,14 +54,15 @@ pub use Rattle.ta_base.proofs.Sums.{range_sum-front, range_sum-same, range_sum-z
 pub use Rattle.ta_base.specs.Lists.{Rises}
 pub use Rattle.ta_base.specs.Masks.{In, all_below, has_bit, implies}
 pub use Rattle.ta_base.proofs.Times.{EachOnce, total-by_times, times-passed}
-pub use Rattle.ta_base.proofs.Totals.{one_if-natural, one_if-ne, one_if-shift, one_if-same, one_inside, one_outside, total-same, total-zero}
+pub use Rattle.ta_base.proofs.Totals.{one_if-natural, one_if-ne, one_if-shift, one_if-same, one_inside, one_outside, total-same, total-zero, total-items}
+pub use Rattle.ta_base.proofs.Totals.{total-naturals}
 pub use Rattle.ta_base.specs.Sums.{one_if, times_in}
 unfoldable pub use Rattle.ta_base.specs.Sums.{total}
 unfoldable pub use Rattle.ta_base.proofs.Sums.{range_sum}
 pub use Rattle.ta_cert.specs.Tree.{Ask, Done, Forest, Leaf, More, Split, Tree, all_preorder, forest_preorder, preorder}
 pub use Rattle.ta_cert.specs.declared.line.Node.{Node}
 pub use Rattle.ta_encode.specs.Code.{AreRowsOf, IsRowOf, SystemAt, SystemOf}
-pub use Rattle.ta_encode.specs.Ends.{EndedSystem, ended_rows}
+pub use Rattle.ta_encode.specs.Ends.{ended_rows}
 pub use Rattle.ta_encode.specs.InPreorder.{ProofsAreDetermined, ProofsReadInOrder, RefutedInOrder}
 pub use Rattle.ta_encode.specs.Inside.Draft.{Adds, AddsUnknowns, Continues, IsDraft, IsDraftOf}
 pub use Rattle.ta_encode.specs.Inside.Firings.{firing}
@@ -81,6 +83,7 @@ unfoldable pub use Rattle.ta_encode.specs.Sample.{sample_meanings, sample_rows}
 pub use Rattle.ta_encode.specs.Search.{Answers, MayAsk, Pending, Search, SolvesAt, all_or_none, answered, asked, bound_at, bounded, bounded_rows, longer}
 pub use Rattle.ta_encode.specs.Search.{only_extend}
 pub use Rattle.ta_encode.specs.System.{AllHold, Bound, High, LinearRow, Low, Side, SolvesWord, bound_row, condition_rows, counter_row, counter_rows, event_rows}
+pub use Rattle.ta_encode.specs.System.{open_rows}
 pub use Rattle.ta_encode.specs.System.{form_row, guard_rows, negated, only_at, opposite, processes_row, row_value, side_row, singles_row, standing_rows}
 pub use Rattle.ta_encode.specs.System.{start_coefficient, start_guard_rows}
 unfoldable pub use Rattle.ta_encode.specs.System.{fall_rows, happening_rows, rise_rows, start_rows, sum_of_products, word_rows}
@@ -107,3 +110,9 @@ pub use Rattle.ta_words.specs.Words.{LegalUnder, LegalWord, follows, is_complete
 unfoldable pub use Rattle.ta_words.specs.Words.{allowed_rules, children, has_event, has_fallen, has_rise}
 pub use Rattle.ta_words.specs.declared.element.Element.{Element}
 pub use Rattle.ta_words.specs.declared.element.Element.TheVariants.{Event, Fall, Rise}
+pub use Rattle.std.specs.Vec.Iter.{into_iter_items}
+pub use Rattle.ta_automaton.specs.Patterns.{PatternOver}
+pub use Rattle.ta_encode.specs.Inside.Counters.{AreCounters, counter_coefficient, terms_at, terms_in}
+pub use Rattle.ta_encode.specs.Inside.Sparse.{Sparse}
+pub use Rattle.ta_encode.specs.declared.ask.Inner.TheVariants.{Asks, Splits}
+pub use Rattle.ta_encode.specs.declared.counters.Counter.{Counter}

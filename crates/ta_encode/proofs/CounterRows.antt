@@ -2,13 +2,12 @@
 use Rattle.ta_encode.proofs.Common.{◌≡◌, ◌≢◌, inl, inr, ℕ, zero, suc, ℤ, pos, negsuc, ◌+◌, ◌<◌, ◌-ℤ◌, List, [], ◌∷◌, ◌++◌, length, map, filter, range_with_len}
 use Rattle.ta_encode.proofs.Common.{get_or, Some, Bool, cond, append-nil, cases_Bool, passed_none, passed_one, LinearRow, arith, ints, refl, sym, ap, ◌∙◌}
 use Rattle.ta_encode.proofs.Common.{subst, cases_eq, length-map, get_or-map, InRange, Automaton, Rule, Row, Meaning, IsNormal, coefficient, IsRowOf}
-use Rattle.ta_encode.proofs.Common.{counter_row, one_if, one_if-ne, one_if-shift, location_place, shared_change-location, rule_change}
+use Rattle.ta_encode.proofs.Common.{counter_row, one_if, one_if-ne, one_if-shift, location_place, shared_change-location, rule_change, AreCounters}
+use Rattle.ta_encode.proofs.Common.{counter_coefficient, terms_at, terms_in, Sparse, Counter}
 use Rattle.std.specs.Prelude.{set}
 use Rattle.std.proofs.lemmas.List.{map-set, get_or-set_same, get_or-set_other}
 use Rattle.ta_base.proofs.Totals.{one_if-one}
-use Rattle.ta_encode.specs.Inside.Counters.{AreCounters, Gains, counter_coefficient, terms_at, terms_in}
-use Rattle.ta_encode.specs.Inside.Sparse.{Sparse}
-use Rattle.ta_encode.specs.declared.counters.Counter.{Counter}
+use Rattle.ta_encode.specs.Inside.Counters.{Gains}
 use Rattle.ta_encode.proofs.Sparse.{sparse_all, sparse_push, sparse_skip}
 
 -- ---- one counter is written
@@ -33,44 +32,6 @@ gain_some n z y before after e some fits is =
 
 pub gain_as : (n : ℕ) (z y : ℤ) (before after : List (ℕ × ℤ)) → z ≡ y → Gains n y before after → Gains n z before after
 gain_as n z y before after e gain = subst (λ (x : ℤ). Gains n x before after) (sym e) gain
-
--- a start count
-pub gain_start : (n l x : ℕ) (before after : List (ℕ × ℤ))
-    → (l ≡ x → after ≡ before ++ (n, pos 1) ∷ []) → (l ≢ x → after ≡ before) → Gains n (one_if x l) before after
-gain_start n l x before after here there = elim (cases_eq l x) [
-  | inl same ↦ gain_some n (one_if x l) (pos 1) before after (ap (one_if x) same ∙ one_if-one x) (λ e. absurd (cc)) (omega (arith, ints)) (here same)
-  | inr other ↦ gain_none n (one_if x l) before after (one_if-ne x l (λ e. other (sym e))) (there other)
-]
-
--- the firings of a rule between two locations
-pub gain_firing : (n l from to : ℕ) (before middle after : List (ℕ × ℤ)) → from ≢ to
-    → (l ≡ from → middle ≡ before ++ (n, negsuc 0) ∷ []) → (l ≢ from → middle ≡ before)
-    → (l ≡ to → after ≡ middle ++ (n, pos 1) ∷ []) → (l ≢ to → after ≡ middle)
-    → Gains n (one_if to l -ℤ one_if from l) before after
-gain_firing n l from to before middle after apart left stayed came away = elim (cases_eq l from) [
-  | inl here ↦
-      let other : l ≢ to = λ e. apart (sym here ∙ e) in
-      let one : one_if from l ≡ pos 1 = ap (one_if from) here ∙ one_if-one from in
-      let none : one_if to l ≡ pos 0 = one_if-ne to l (λ e. other (sym e)) in
-      let value : (one_if to l -ℤ one_if from l) ≡ negsuc 0 = omega (arith, ints, one, none) in
-      gain_some n (one_if to l -ℤ one_if from l) (negsuc 0) before after value (λ e. absurd (cc)) (omega (arith, ints)) (away other ∙ left here)
-  | inr gone ↦
-      let none : one_if from l ≡ pos 0 = one_if-ne from l (λ e. gone (sym e)) in
-      elim (cases_eq l to) [
-        | inl here ↦
-            let one : one_if to l ≡ pos 1 = ap (one_if to) here ∙ one_if-one to in
-            let value : (one_if to l -ℤ one_if from l) ≡ pos 1 = omega (arith, ints, one, none) in
-            let is : after ≡ before ++ (n, pos 1) ∷ [] = came here ∙ ap (λ (ts : List (ℕ × ℤ)). ts ++ (n, pos 1) ∷ []) (stayed gone) in
-            gain_some n (one_if to l -ℤ one_if from l) (pos 1) before after value (λ e. absurd (cc)) (omega (arith, ints)) is
-        | inr other ↦
-            let value : (one_if to l -ℤ one_if from l) ≡ pos 0 = omega (arith, ints, one_if-ne to l (λ e. other (sym e)), none) in
-            gain_none n (one_if to l -ℤ one_if from l) before after value (away other ∙ stayed gone)
-      ]
-]
-
--- those of a rule that stays
-pub gain_loop : (n l from to : ℕ) (before : List (ℕ × ℤ)) → from ≡ to → Gains n (one_if to l -ℤ one_if from l) before before
-gain_loop n l from to before same = gain_none n (one_if to l -ℤ one_if from l) before before (omega (arith, ints, ap (λ (k : ℕ). one_if k l) same)) refl
 
 -- what a rule changes at a location
 pub location_change : (a : Automaton) (rule : Rule) (l : ℕ) → rule_change a (Some rule) (location_place a l) ≡ (one_if rule.to l -ℤ one_if rule.from l)

@@ -1,17 +1,16 @@
 -- the unknowns and rows of a word, element by element
-use Rattle.ta_encode.specs.System.{open_rows}
-use Rattle.ta_encode.specs.Inside.Draft.{IsOpen}
-use Rattle.ta_encode.proofs.Common.{Bool, ◌≡◌, ℕ, pos, negsuc, ◌+◌, ◌-◌, ◌*◌, ◌≤◌, ◌-ℤ◌, List, [], ◌∷◌, ◌++◌, length, map, reverse, not, ◌||◌, bit_or}
-use Rattle.ta_encode.proofs.Common.{slice_get, arith, sym, ap, ◌∙◌, refl, subst, append_assoc, length-append, filter, ◌==◌, map-append, length-map}
+use Rattle.ta_encode.proofs.Common.{open_rows, Bool, ◌≡◌, ℕ, pos, negsuc, ◌+◌, ◌-◌, ◌*◌, ◌≤◌, ◌-ℤ◌, List, [], ◌∷◌, ◌++◌, length, map, reverse, not, ◌||◌}
+use Rattle.ta_encode.proofs.Common.{bit_or, slice_get, arith, sym, ap, ◌∙◌, refl, subst, append_assoc, length-append, filter, ◌==◌, map-append, length-map}
 use Rattle.ta_encode.proofs.Common.{length-reverse, has_or, each_from_at, filter_shorter, map_constant, rises_length, AllBelow, Row, IsNormal-higher, has_bit}
 use Rattle.ta_encode.proofs.Common.{range_with_len, Automaton, Pattern, Element, Event, Rise, Fall, LegalWord, may_fire, allowed_rules, has_fallen}
 use Rattle.ta_encode.proofs.Common.{legal_length, Meaning, Count, Single, Start, Parameter, meanings, start_meanings, start_locations, counts_after}
 use Rattle.ta_encode.proofs.Common.{singles_after, LinearRow, opposite, negated, singles_row, start_rows, event_rows, guard_rows, standing_rows, rise_rows}
 use Rattle.ta_encode.proofs.Common.{happening_rows, fall_rows, word_rows, condition_rows, processes_row, start_guard_rows, AreWritten, IsBehind, SmallCondition}
 use Rattle.ta_encode.proofs.Common.{SmallEvents, block_row, counters_outside, firing, Adds, AddsUnknowns, Continues, IsDraft, Draft, Origin, Plain, Opposite}
-use Rattle.ta_encode.proofs.Common.{map-map, filter_agree, length-range_with_len}
+use Rattle.ta_encode.proofs.Common.{map-map, filter_agree, length-range_with_len, PatternOver}
+use Rattle.ta_encode.specs.Inside.Draft.{IsOpen}
 use Rattle.std.proofs.lemmas.List.Prefix.{front_fits}
-use Rattle.ta_automaton.specs.Patterns.{EventWithin, PatternOver}
+use Rattle.ta_automaton.specs.Patterns.{EventWithin}
 use Rattle.ta_words.specs.declared.narrow_task.NarrowTask.{NarrowTask}
 use Rattle.ta_encode.proofs.Adding.{adds_at, adds_behind, adds_both, behind_join, guards_same, nothing_written}
 use Rattle.ta_encode.proofs.Smallness.{small_condition, places_most}

@@ -1,17 +1,15 @@
 -- the parts of a node, one after another
+use Rattle.ta_encode.proofs.Common.{Asks, Splits, BoundWithin, BoundsWithin, reverse-append}
 use Rattle.ta_encode.proofs.CursorCommon.{◌≡◌, ◌⊎◌, inl, inr, ℕ, ◌≤◌, ℤ, List, [], ◌∷◌, ◌++◌, length, map, drop, reverse, slice_get, Some, None, true, false}
 use Rattle.ta_encode.proofs.CursorCommon.{arith, sym, ap, ◌∙◌, refl, subst, AllocError, slice_get-map, none_dropped, in_at, Bound, Low, High, Pending, Search}
 use Rattle.ta_encode.proofs.CursorCommon.{Comes, bound_at, bounded, longer, parts, Split, Frame, Cursor, here, IsWord, SplitFits, Within, GoesOn, Ok, Err}
 use Rattle.ta_encode.proofs.CursorCommon.{answered}
 use Rattle.ta_encode.specs.Asking.{ask_node}
 use Rattle.ta_encode.specs.declared.ask.Ask.{Ask}
-use Rattle.ta_encode.specs.declared.ask.Ask.TheVariants as ask
-use Rattle.ta_encode.specs.declared.ask.Inner.TheVariants.{Asks, Splits}
 use Rattle.ta_base.proofs.Each.{each_push}
-use Rattle.ta_encode.specs.Lines.{BoundWithin, BoundsWithin}
 use Rattle.ta_encode.specs.declared.meaning.Side.{Side}
 use Rattle.ta_encode.proofs.FramesKept.{Opened, opened_on}
-use Rattle.std.proofs.lemmas.List.{reverse-append}
+use Rattle.ta_encode.specs.declared.ask.Ask.TheVariants as ask
 
 pub bounds_more : (n m : ℕ) (bounds : List Bound) → n ≤ m → BoundsWithin n bounds → BoundsWithin m bounds
 bounds_more n m [] le h = tt

@@ -5,8 +5,7 @@ use Rattle.ta_encode.proofs.Common.{ints, terms_value, Row, Comparison, Automato
 use Rattle.ta_encode.proofs.Common.{allowed_rules, has_fallen, Meaning, Single, place_coefficient, start_meanings, meanings, counts_after, singles_after}
 use Rattle.ta_encode.proofs.Common.{LinearRow, opposite, negated, form_row, counter_row, counter_rows, condition_rows, guard_rows, start_guard_rows}
 use Rattle.ta_encode.proofs.Common.{start_coefficient, processes_row, singles_row, event_rows, standing_rows, start_rows, rise_rows, happening_rows, fall_rows}
-use Rattle.ta_encode.proofs.Common.{word_rows, sum_of_products, AllHold, SolvesWord, values_of_prefix}
-use Rattle.std.specs.List.{filter}
+use Rattle.ta_encode.proofs.Common.{word_rows, sum_of_products, AllHold, SolvesWord, values_of_prefix, filter}
 use Rattle.ta_automaton.specs.declared.pattern.Event.{Event as PatternEvent}
 use Rattle.ta_encode.proofs.Moments.{AllHold-append, AllHold-left}
 use Rattle.ta_encode.proofs.Safety.{extend}

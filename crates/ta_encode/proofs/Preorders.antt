@@ -3,9 +3,9 @@ use Rattle.ta_encode.proofs.Common.{◌≡◌, ℕ, zero, suc, ◌≤◌, ◌<�
 use Rattle.ta_encode.proofs.Common.{Tree, Forest, Leaf, Ask, Split, Done, More, preorder, forest_preorder, all_preorder, Low, High, Pending, Search, bound_at}
 use Rattle.ta_encode.proofs.Common.{bounded, longer, MayAsk, answered, IsLeaf, RefutesBy, RefuteEach, RefuteAll, ProofBy, RefutedInOrder, ProofsReadInOrder}
 use Rattle.ta_encode.proofs.Common.{ProofsAreDetermined, LeafTest, false≢true}
-use Rattle.ta_cert.specs.declared.line.Node.TheVariants as node
 use Rattle.ta_encode.proofs.Asking.{none_asked}
 use Rattle.ta_base.proofs.Lists.{joined, regrouped}
+use Rattle.ta_cert.specs.declared.line.Node.TheVariants as node
 
 -- the tree of the first word, and the nodes of the others
 pub record First {E : Type 0} (s : Search E) (test : LeafTest E) (w : Pending E) (ws : List (Pending E)) (ns : List Node) : Type 0 where

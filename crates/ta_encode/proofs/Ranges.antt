@@ -1,12 +1,9 @@
 -- the check of a leaf over a system of the code and over the rows of its word
+use Rattle.ta_encode.proofs.Common.{*ℤ-zero, nat_tests, InRange, linear_coefficient_in, linear_constant_in}
 use Rattle.ta_encode.proofs.CursorCommon.{◌≡◌, ℕ, ◌<◌, ◌≤◌, ℤ, pos, ◌+ℤ◌, ◌*ℤ◌, List, [], ◌∷◌, true, false, cond, slice_get, nat_lt, arith, sym, ap, ◌∙◌, refl}
 use Rattle.ta_encode.proofs.CursorCommon.{subst, inl, inr, cases_lt, ints, System, Pending, Search, bounded_rows, SystemAt, coefficient_same, constant_same}
-use Rattle.std.proofs.Math.IntN.{*ℤ-zero}
-use Rattle.std.proofs.lemmas.Bool.Decides.{nat_tests}
-use Rattle.ta_linear.specs.Numbers.{InRange}
 use Rattle.ta_linear.specs.Sums.{StaysInRange}
 use Rattle.ta_linear.specs.Leaf.{coefficient_in as code_coefficient, constant_in as code_constant}
-use Rattle.ta_encode.specs.Refutes.{linear_coefficient_in, linear_constant_in}
 use Rattle.ta_farkas.specs.Columns.{entry, CheckStays}
 use Rattle.ta_farkas.proofs.Judging.{none_beyond}
 use Rattle.ta_encode.specs.Range.{LeafStays}

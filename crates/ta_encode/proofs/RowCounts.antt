@@ -1,19 +1,17 @@
 -- a legal word has few unknowns, and its system few variables
+use Rattle.ta_encode.proofs.Common.{Row, PatternOver, Comparison, counts_after, singles_after, bound_row, form_row, counter_row, counter_rows, condition_rows}
+use Rattle.ta_encode.proofs.Common.{guard_rows, start_guard_rows, processes_row, opposite, negated, singles_row, event_rows, standing_rows}
 use Rattle.ta_encode.proofs.CursorCommon.{◌≡◌, inl, inr, ℕ, suc, ◌+◌, ◌*◌, ◌<◌, ◌≤◌, ◌^◌, List, [], ◌∷◌, ◌++◌, length, map, cond, Bool, true, false, not}
 use Rattle.ta_encode.proofs.CursorCommon.{slice_get, Option, None, Some, arith, ap, length-append, filter, ◌==◌, length-map, count_few, System, has_bit}
 use Rattle.ta_encode.proofs.CursorCommon.{range_with_len, Automaton, Pattern, Element, Event, Rise, Fall, LegalWord, allowed_rules, has_event, has_rise}
 use Rattle.ta_encode.proofs.CursorCommon.{has_fallen, is_ready, is_standing, in_children, event_new, rise_new, fall_new, legal_length, SystemAt, Pending}
 use Rattle.ta_encode.proofs.CursorCommon.{Search, rows_count, IsSmall}
 use Rattle.ta_base.proofs.Naturals.{count, count_most}
-use Rattle.ta_linear.specs.declared.row.Row.{Row}
 use Rattle.ta_automaton.specs.Narrow.{IsNarrow}
-use Rattle.ta_automaton.specs.Patterns.{PatternOver}
-use Rattle.ta_automaton.specs.declared.condition.Comparison.{Comparison}
 use Rattle.ta_automaton.specs.declared.pattern.Event.{Event as PatternEvent}
 use Rattle.ta_encode.specs.declared.meaning.Meaning.{Meaning}
-use Rattle.ta_encode.specs.Unknowns.{meanings, start_meanings, counts_after, singles_after}
-use Rattle.ta_encode.specs.System.{bound_row, form_row, counter_row, counter_rows, condition_rows, guard_rows, start_guard_rows, processes_row, opposite}
-use Rattle.ta_encode.specs.System.{negated, singles_row, event_rows, standing_rows, start_rows, rise_rows, happening_rows, fall_rows, word_rows}
+use Rattle.ta_encode.specs.Unknowns.{meanings, start_meanings}
+use Rattle.ta_encode.specs.System.{start_rows, rise_rows, happening_rows, fall_rows, word_rows}
 use Rattle.ta_encode.proofs.Drafts.{start_few as start_meanings_few, counts_few, singles_few}
 
 -- a comparison has at most two rows

@@ -2,8 +2,7 @@
 use Rattle.ta_encode.proofs.Common.{◌≡◌, ◌≢◌, ℕ, ℤ, pos, ◌+◌, ◌*◌, ◌<◌, ◌≤◌, ◌+ℤ◌, ◌*ℤ◌, unsigned_abs, List, [], ◌∷◌, ◌++◌, length, take, get_or, arith, sym}
 use Rattle.ta_encode.proofs.Common.{ap, ◌∙◌, subst, ◌==◌, if◌then◌else◌, FitsSigned, to_z, of_z, w128, ints, fits_signed_mul, take_more, take-length}
 use Rattle.ta_encode.proofs.Common.{AllByRecursion, each_get_or, abs_product, abs_sum, fits_sum, to_z_abs, coefficient, terms_value, coefficient-append}
-use Rattle.ta_encode.proofs.Common.{cond_apart, cond_same}
-use Rattle.std.proofs.Math.IntN.{+ℤ_idr}
+use Rattle.ta_encode.proofs.Common.{cond_apart, cond_same, +ℤ_idr}
 
 abbrev pub at_variable : (ℕ × ℤ) → ℕ → ℤ
 at_variable t x = if t.0 == x then t.1 else pos 0

@@ -5,7 +5,6 @@ use Rattle.ta_encode.proofs.Common.{Config, Initial, Fits, resilience_holds, Nod
 use Rattle.ta_encode.proofs.Common.{LinearRow, Low, bound_row, condition_rows, opposite, processes_row, RefutedInOrder, IsLeaf, LeafTest, HasStart}
 use Rattle.ta_encode.proofs.Common.{SamplesStart, StartsAreSampled, sample_meanings, sample_rows, sample_search, sampled, Pending, bound_at, bounded}
 use Rattle.ta_encode.proofs.Common.{bounded_rows, Adds, AreWritten, Draft, append-nil, length-range_with_len, Element, MayAsk, true}
-use Rattle.ta_cert.specs.declared.line.Node.TheVariants as node
 use Rattle.ta_encode.proofs.Adding.{adds_behind, adds_both, nothing_written}
 use Rattle.ta_encode.proofs.Asking.{complete_asks_none, only_asks}
 use Rattle.ta_encode.proofs.Begin.{FirstRows, first_initial, first_of}
@@ -16,6 +15,7 @@ use Rattle.ta_encode.proofs.Safety.{bounds_more, sides}
 use Rattle.ta_encode.proofs.Start.{StartsEmpty, parameter_values, processes_value, start_counts, start_moment}
 use Rattle.ta_encode.proofs.Starts.{parameter_picks}
 use Rattle.ta_encode.proofs.Values.{AllHold-right}
+use Rattle.ta_cert.specs.declared.line.Node.TheVariants as node
 
 abbrev plain : Pattern
 plain = record { name = []; start = record { comparisons = []; limit = omega arith }; empty = 0; events = [] }
@@ -140,7 +140,3 @@ pub none_starts : (a : Automaton) (test : LeafTest Element) → ((w : Pending El
 none_starts a test leaf nodes h parameters start =
     none_solved a test leaf (sample_search a).roots nodes h (sampled []) (inl refl) (start.first.parameters ++ map (slice_index start.first.counters) a.initial)
     (starts_sampled a start.first start.initial).rows_hold
-
--- nothing is asked in the search for a sample
-pub sample_asks : (a : Automaton) (start : ℕ) (past : List Element) (n : Node) → MayAsk (sample_search a) start past n → n ≡ node.Extend
-sample_asks a start past n may = only_asks (sample_search a) start past true [] (λ m. sym (complete_asks_none true [] m refl)) n may

@@ -3,8 +3,7 @@ use Rattle.ta_encode.proofs.Common.{◌≡◌, inl, inr, ℕ, zero, suc, ◌+◌
 use Rattle.ta_encode.proofs.Common.{slice_get, Some, length-map, ints, AllByRecursion, each_append, each_at, each_map_all, get_drop, get_of_drop, get_of_map}
 use Rattle.ta_encode.proofs.Common.{get_parts, get_right, only_in, Automaton, Pattern, has_bit, range_with_len, In, Element, Event, Rise, Fall, allowed_rules}
 use Rattle.ta_encode.proofs.Common.{Meaning, Parameter, Start, Count, Single, meanings, counts_after, singles_after, start_locations, start_meanings, opposite}
-use Rattle.ta_encode.proofs.Common.{counter_rows, guard_rows, singles_row, fall_rows, sum_of_products, AllHold, IsOne, get_map as map_get}
-use Rattle.std.proofs.Common.{replicate}
+use Rattle.ta_encode.proofs.Common.{counter_rows, guard_rows, singles_row, fall_rows, sum_of_products, AllHold, IsOne, get_map as map_get, replicate}
 use Rattle.ta_base.proofs.Lists.{none_repeated}
 use Rattle.ta_base.proofs.Members.{In-right}
 use Rattle.ta_encode.proofs.Combine.{combine-zero}

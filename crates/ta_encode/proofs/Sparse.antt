@@ -1,8 +1,7 @@
 -- a row's terms, unknown by unknown
 use Rattle.ta_encode.proofs.Common.{◌≡◌, ◌≢◌, inl, inr, ℕ, ℤ, pos, ◌+◌, ◌<◌, List, [], ◌∷◌, ◌++◌, length, map, get_or, arith, sym, ap, ◌∙◌, subst, ints}
 use Rattle.ta_encode.proofs.Common.{get_past, below_or_last, InRange, coefficient, IsNormal, IsNormal-push, IsNormal-higher, coefficient-append}
-use Rattle.ta_encode.proofs.Common.{coefficient-above, get_or-map, cond_apart, cond_same, cases_lt}
-use Rattle.ta_encode.specs.Inside.Sparse.{Sparse}
+use Rattle.ta_encode.proofs.Common.{coefficient-above, get_or-map, cond_apart, cond_same, cases_lt, Sparse}
 
 pub sparse_push : {M : Type 0} (f : M → ℤ) (ms : List M) (n : ℕ) (ts next : List (ℕ × ℤ)) (d : M) (z : ℤ) → Sparse f ms n ts → n < length ms
     → z ≡ f (get_or ms n d) → z ≢ pos 0 → InRange z → next ≡ ts ++ (n, z) ∷ [] → Sparse f ms (n + 1) next

@@ -7,8 +7,8 @@ use Rattle.ta_encode.proofs.Common.{range_with_len, In, has_fallen, Meaning, Par
 use Rattle.ta_encode.proofs.Common.{one_if, location_place, opposite, processes_row, start_coefficient, condition_rows, start_guard_rows, start_rows, word_rows}
 use Rattle.ta_encode.proofs.Common.{sum_of_products, row_value, AllHold, total, total-zero, total-same, one_inside, one_outside, terms_value-same, Fits}
 use Rattle.ta_encode.proofs.Common.{place_cases, value_at-parameter, value_at-shared, value_at-location, one_if-ne, one_if-shift, resilience_holds}
-use Rattle.ta_encode.proofs.Common.{processes_value as processes_at}
-use Rattle.ta_base.proofs.Totals.{one_among, total-items, total-naturals, total-rising}
+use Rattle.ta_encode.proofs.Common.{processes_value as processes_at, total-items, total-naturals}
+use Rattle.ta_base.proofs.Totals.{one_among, total-rising}
 use Rattle.ta_encode.proofs.Combine.{combine-append, combine-extra, combine-map, combine-minus, combine-terms}
 use Rattle.ta_encode.proofs.Moments.{Moment, RowFails, AllHold-append, condition_holds, start_guards, opposite_value}
 use Rattle.ta_encode.proofs.State.{State}

@@ -11,8 +11,7 @@ use Rattle.ta_encode.proofs.Common.{Automaton, terms_value-same, Pattern, Config
 use Rattle.ta_encode.proofs.Common.{has_rise, has_fallen, is_complete, is_due, is_ready, is_standing, LegalUnder, allowed_rules, Meaning, Count, Single}
 use Rattle.ta_encode.proofs.Common.{meanings, counts_after, singles_after, place_coefficient, LinearRow, opposite, negated, counter_rows, guard_rows}
 use Rattle.ta_encode.proofs.Common.{standing_rows, singles_row, event_rows, rise_rows, happening_rows, fall_rows, word_rows, sum_of_products, row_value}
-use Rattle.ta_encode.proofs.Common.{AllHold, total, times_in, EachOnce, total-by_times, Fits}
-use Rattle.std.specs.List.{filter}
+use Rattle.ta_encode.proofs.Common.{AllHold, total, times_in, EachOnce, total-by_times, Fits, filter}
 pub use Rattle.ta_automaton.proofs.Onward.{change_of}
 use Rattle.ta_automaton.specs.declared.pattern.Event.{Event as PatternEvent}
 use Rattle.ta_encode.proofs.Combine.{combine-append, combine-extra, combine-map, combine-zero, combine-concat, combine-own}

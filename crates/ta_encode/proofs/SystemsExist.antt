@@ -11,10 +11,9 @@ use Rattle.ta_encode.proofs.Common.{Parameter, Start, Count, Single, place_coeff
 use Rattle.ta_encode.proofs.Common.{Side, Low, High, bound_row, only_at, side_row, opposite, negated, form_row, counter_row, counter_rows, condition_rows}
 use Rattle.ta_encode.proofs.Common.{guard_rows, start_guard_rows, start_coefficient, processes_row, singles_row, event_rows, standing_rows, start_rows}
 use Rattle.ta_encode.proofs.Common.{rise_rows, happening_rows, fall_rows, word_rows, SmallForm, SmallRows, SmallCondition, SmallEvents, cond_both, each_map}
-use Rattle.ta_encode.proofs.Common.{cond_apart, cond_same}
-use Rattle.std.proofs.Math.IntN.{+ℤ_idl, +ℤ_idr}
+use Rattle.ta_encode.proofs.Common.{cond_apart, cond_same, +ℤ_idr, filter}
+use Rattle.std.proofs.Math.IntN.{+ℤ_idl}
 use Rattle.ta_base.proofs.Totals.{one_if-small}
-use Rattle.std.specs.List.{filter}
 use Rattle.ta_automaton.specs.declared.pattern.Event.{Event as PatternEvent}
 use Rattle.ta_encode.proofs.Changes.{small_updates}
 use Rattle.ta_encode.proofs.Drafts.{events_small, start_small as small_at_start}

@@ -1,8 +1,8 @@
 -- a place goes on within its tree, or to the next
+use Rattle.ta_encode.proofs.Common.{Node}
 use Rattle.ta_encode.proofs.CursorCommon.{◌≡◌, ℕ, ◌+◌, ◌^◌, ◌<◌, true, false, List, [], ◌∷◌, ◌++◌, drop, slice_get, Some, None, Ok, Err, IfOk, Result, Bool}
 use Rattle.ta_encode.proofs.CursorCommon.{sym, ap, ◌∙◌, refl, subst, append_assoc, AllocError, next_dropped, none_dropped, Pending, Search, parts, Cursor}
 use Rattle.ta_encode.proofs.CursorCommon.{node_at, GoesOn, Inside, IsAtRoot, WentOn, Within, here_at, AllWithin, AllGoOn, IsRoot}
-use Rattle.ta_cert.specs.declared.line.Node.{Node}
 use Rattle.ta_encode.specs.declared.cursor_place.Place.{Place}
 use Rattle.ta_encode.proofs.Beginning.{begins_within}
 

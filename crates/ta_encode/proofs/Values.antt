@@ -5,13 +5,11 @@ use Rattle.ta_encode.proofs.Common.{In-filter, in_append, in_more, In-numbers, v
 use Rattle.ta_encode.proofs.Common.{has_bit, range_with_len, In, Element, Event, Rise, Fall, may_fire, allowed_rules, children, is_complete, is_ready}
 use Rattle.ta_encode.proofs.Common.{is_standing, may_rise, Meaning, place_coefficient, location_place, LinearRow, form_row, counter_row, counter_rows}
 use Rattle.ta_encode.proofs.Common.{condition_rows, guard_rows, sum_of_products, row_value, AllHold, total, terms_value-same, in_filter, each_append}
-use Rattle.ta_encode.proofs.Common.{length-append}
-use Rattle.std.proofs.Common.{replicate}
+use Rattle.ta_encode.proofs.Common.{length-append, replicate, filter}
 use Rattle.ta_base.proofs.Totals.{total-append, total-replicate}
 use Rattle.std.proofs.lemmas.List.{length-replicate}
 use Rattle.ta_base.proofs.Each.{each_copies}
 use Rattle.std.proofs.Math.IntN.{*ℤ_comm}
-use Rattle.std.specs.List.{filter}
 use Rattle.ta_encode.proofs.Moments.{AllHold-left}
 use Rattle.ta_encode.proofs.Combine.{combine-terms}
 use Rattle.ta_encode.proofs.Segment.{EachMay}

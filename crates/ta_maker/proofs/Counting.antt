@@ -1,8 +1,7 @@
 -- numbers from one on, one more at a time
 use Rattle.ta_maker.proofs.Common.{◌≡◌, ◌∙◌, ◌≤◌, ◌+◌, ◌-◌, ℕ, length, List, [], ◌∷◌, ◌++◌, map, refl, sym, ap, arith, append_assoc, length-map, map-append}
-use Rattle.ta_maker.proofs.Common.{range_with_len, rules_of, sender, waiter, PlainRule}
+use Rattle.ta_maker.proofs.Common.{range_with_len, rules_of, sender, waiter, PlainRule, length-range_with_len}
 use Rattle.ta_base.proofs.Ranges.{counted_on}
-use Rattle.std.proofs.lemmas.List.FromFn.{length-range_with_len}
 
 pub more_rules : {T : Type 0} (plain : T → PlainRule) (items : List T) (first second : T) (i k : ℕ) (all : List PlainRule) → i ≤ k → plain first ≡ sender i
     → plain second ≡ waiter i → map plain items ++ rules_of (range_with_len i (k + 1 - i)) ≡ all → map plain ((items ++ first ∷ []) ++ second ∷ [])

@@ -1,20 +1,18 @@
 -- What the text of an automaton of the family means: no rule lies on a cycle, and the pattern occurs in no run.
-use Rattle.ta_maker.proofs.Common.{◌≡◌, ◌∙◌, Bool, false, nat_eq, Option, None, if◌then◌else◌, ◌+◌, ◌≤◌, ℕ, zero, suc, ℤ, pos, ◌+ℤ◌, ◌-ℤ◌, ◌*ℤ◌}
-use Rattle.ta_maker.proofs.Common.{negsuc, ◌≤ℤ◌, ◌^◌, List, [], ◌∷◌, ◌++◌, length, map, refl, sym, ap, subst, arith, length-map, codes}
-use Rattle.ta_maker.proofs.Common.{range_with_len, numbered, rules_of, slice_get, get_or, Some, fold, sum, AllByRecursion, slice_index_or}
+use Rattle.ta_maker.proofs.Common.{◌≡◌, ◌∙◌, Bool, false, nat_eq, Option, None, if◌then◌else◌, ◌+◌, ◌≤◌, ℕ, zero, suc, ℤ, pos, ◌+ℤ◌, ◌-ℤ◌, ◌*ℤ◌, negsuc, ◌≤ℤ◌}
+use Rattle.ta_maker.proofs.Common.{◌^◌, List, [], ◌∷◌, ◌++◌, length, map, refl, sym, ap, subst, arith, length-map, codes, range_with_len, numbered, rules_of}
+use Rattle.ta_maker.proofs.Common.{slice_get, get_or, Some, fold, sum, AllByRecursion, slice_index_or, length-range_with_len, File, family, lone, name, sender}
+use Rattle.ta_maker.proofs.Common.{waiter, IsFamilyNumber, comparison_rows, linear_sum, Guards, MeansTree, plain_names, PlainComparison, PlainRule, number}
 use Rattle.std.proofs.lemmas.Bool.Decides.{nat_tests}
 use Rattle.std.proofs.lemmas.Int.{ints}
 use Rattle.std.specs.List.{All}
-use Rattle.std.proofs.lemmas.List.FromFn.{length-range_with_len}
 use Rattle.ta_automaton.proofs.Moves.{value_at-location, value_at-parameter}
 use Rattle.ta_automaton.proofs.RunLaws.{counters_add_up, fits_at}
 use Rattle.ta_automaton.specs.Places.{location_place}
-use Rattle.ta_automaton.specs.Runs as runs
 use Rattle.ta_automaton.specs.Runs.{HoldsAt, value_at}
 use Rattle.ta_automaton.specs.declared.automaton.Automaton.{Automaton}
 use Rattle.ta_automaton.specs.declared.condition.Comparison.{Comparison}
 use Rattle.ta_automaton.specs.declared.condition.Condition.{Condition}
-use Rattle.ta_automaton.specs.declared.file.File.{File}
 use Rattle.ta_automaton.specs.declared.pattern.Event.{Event}
 use Rattle.ta_automaton.specs.declared.pattern.Pattern.{Pattern}
 use Rattle.ta_automaton.specs.declared.rule.Rule.{Rule}
@@ -24,15 +22,12 @@ use Rattle.ta_linear.specs.Terms.{coefficient, IsNormal, IsTerm}
 use Rattle.ta_linear.specs.Values.{RowHolds, terms_value, value_of}
 use Rattle.ta_linear.specs.declared.form.Form.{Form}
 use Rattle.ta_linear.specs.declared.row.Row.{Row}
-use Rattle.ta_maker.specs.Family.{at_least, family, lone, lost, name, pair, sender, waiter}
-use Rattle.ta_maker.specs.Made.{IsFamilyNumber}
-use Rattle.ta_meaning.specs.Linear.{FormOf, MeansComparison, RowOf, comparison_rows, linear_difference, linear_sum, minus}
-use Rattle.ta_meaning.specs.Guards.{Guards}
-use Rattle.ta_meaning.specs.Meaning.{MeansAutomaton, MeansEvents, MeansPattern, MeansRule, MeansTree, guards_of}
-use Rattle.ta_meaning.specs.Names.{plain_names}
+use Rattle.ta_maker.specs.Family.{at_least, lost, pair}
+use Rattle.ta_meaning.specs.Linear.{FormOf, MeansComparison, RowOf, linear_difference, minus}
+use Rattle.ta_meaning.specs.Meaning.{MeansAutomaton, MeansEvents, MeansPattern, MeansRule, guards_of}
 use Rattle.ta_meaning.specs.Sums.{sum_coefficient}
 use Rattle.ta_scope.specs.Faults.{FirstRuleFault}
-use Rattle.ta_syntax.specs.Grammar.{PlainComparison, PlainRule, number}
+use Rattle.ta_automaton.specs.Runs as runs
 
 -- ---- no cycles: each rule goes from the first location to the second
 record FromAToB (rule : Rule) : Type 0 where

@@ -1,13 +1,9 @@
 -- the automata of the family are trees of the grammar, within its limits
-use Rattle.ta_maker.proofs.Common.{◌≤◌, ◌+◌, ℕ, zero, suc, List, [], ◌∷◌, length, map, refl, arith, length-map, codes, range_with_len, numbered}
-use Rattle.ta_maker.proofs.Common.{rules_of, AllByRecursion, IsFamilyNumber, IsDigits}
-use Rattle.std.proofs.lemmas.List.FromFn.{length-range_with_len}
+use Rattle.ta_maker.proofs.Common.{◌≤◌, ◌+◌, ℕ, zero, suc, List, [], ◌∷◌, length, map, refl, arith, length-map, codes, range_with_len, numbered, rules_of}
+use Rattle.ta_maker.proofs.Common.{AllByRecursion, IsFamilyNumber, IsDigits, length-range_with_len, family, IsNameText, narrow}
 use Rattle.ta_maker.proofs.Counting.{twice}
 use Rattle.ta_maker.proofs.Naming.{name_A, name_B, name_family, name_g, name_lost, name_n, name_s, name_x}
-use Rattle.ta_maker.specs.Family.{family}
 use Rattle.ta_syntax.specs.Grammar.{IsRule, IsTree}
-use Rattle.ta_syntax.specs.Kinds.{IsNameText}
-use Rattle.ta_base.specs.LimitRows.{narrow}
 use Rattle.ta_syntax.specs.Limits.{IsRuleWithin, IsTreeWithin}
 
 digits_one : IsDigits (codes "1")

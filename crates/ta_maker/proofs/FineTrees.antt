@@ -1,25 +1,23 @@
 -- Trees without an error of meaning, by a test of the tree without its offsets. Sums have neither parentheses nor products.
-use Rattle.ta_maker.proofs.Common.{◌≡◌, ◌∙◌, ℕ, Bool, true, false, ◌&&◌, ◌||◌, if◌then◌else◌, List, [], ◌∷◌, ◌++◌, length, map, refl, sym, ap, subst}
-use Rattle.ta_maker.proofs.Common.{Option, Some, None, ltb, not, Term, Terms}
-use Rattle.std.proofs.lemmas.Bool.{and_parts}
-use Rattle.ta_base.specs.LimitRows.{narrow}
+use Rattle.ta_maker.proofs.Common.{◌≡◌, ◌∙◌, ℕ, Bool, true, false, ◌&&◌, ◌||◌, if◌then◌else◌, List, [], ◌∷◌, ◌++◌, length, map, refl, sym, ap, subst, Option}
+use Rattle.ta_maker.proofs.Common.{Some, None, ltb, not, Term, Terms, and_parts, narrow, Guards, comparison_rows, linear_sum, plain_names, PlainComparison}
+use Rattle.ta_maker.proofs.Common.{PlainRule, PlainTree, number, plain_sum, plain_comparison, plain_location, plain_name, plain_pattern, plain_rule, plain_tree}
+use Rattle.ta_maker.proofs.Common.{FileFault, Tree}
 use Rattle.ta_base.specs.declared.limits.TheConstants.{LARGEST_NUMBER}
 use Rattle.ta_meaning.specs.Faults.{Scope, WithFaults, any_initial, comparison_faults, condition_faults, counted, declarations_faults}
 use Rattle.ta_meaning.specs.Faults.{declared_faults, digits_faults, else_, event_faults, events_faults, factor_judged, guard_faults, guards_faults}
 use Rattle.ta_meaning.specs.Faults.{guards_then, guards_with, in_conditions, in_guards, in_parameters, is_long, judged_sum, judged_terms, linear_term}
 use Rattle.ta_meaning.specs.Faults.{listed_faults, location_spelled, meaning_faults, names_faults, pattern_faults, patterns_faults, processes_faults}
 use Rattle.ta_meaning.specs.Faults.{rule_faults, rules_faults, sum_faults, sum_judged, term_judged, updates_faults, used_faults, where_}
-use Rattle.ta_meaning.specs.Guards.{Guards, is_no_threshold, is_one_more, no_guards, with_guards}
-use Rattle.ta_meaning.specs.Linear.{any_large, comparison_rows, is_large_linear, linear_sum}
-use Rattle.ta_meaning.specs.Names.{Names, all_names, guard_names, location_name, names_of, plain_names}
+use Rattle.ta_meaning.specs.Guards.{is_no_threshold, is_one_more, no_guards, with_guards}
+use Rattle.ta_meaning.specs.Linear.{any_large, is_large_linear}
+use Rattle.ta_meaning.specs.Names.{Names, all_names, guard_names, location_name, names_of}
 use Rattle.ta_meaning.specs.Sums.{has_name, number_of}
 use Rattle.ta_syntax.proofs.PrintSteps.{plain_sum_out}
-use Rattle.ta_syntax.specs.Grammar.{Factor, PlainComparison, PlainEvent, PlainLocation, PlainPattern, PlainRule, PlainTree, PlainUpdate, alone, blank}
-use Rattle.ta_syntax.specs.Grammar.{done, named, nested, number, term, times}
-use Rattle.ta_syntax.specs.PlainSums.{factor_layer, plain_factor, plain_sum, plain_term, plain_terms, sum_layer, term_layer}
-use Rattle.ta_syntax.specs.PlainTrees.{plain_comparison, plain_event, plain_location, plain_name, plain_pattern, plain_rule, plain_tree, plain_update}
-use Rattle.ta_syntax.specs.declared.fault.FileFault.{FileFault}
-use Rattle.ta_syntax.specs.declared.fault.FileFault.TheVariants as fault
+use Rattle.ta_syntax.specs.Grammar.{Factor, PlainEvent, PlainLocation, PlainPattern, PlainUpdate, alone, blank}
+use Rattle.ta_syntax.specs.Grammar.{done, named, nested, term, times}
+use Rattle.ta_syntax.specs.PlainSums.{factor_layer, plain_factor, plain_term, plain_terms, sum_layer, term_layer}
+use Rattle.ta_syntax.specs.PlainTrees.{plain_event, plain_update}
 use Rattle.ta_syntax.specs.declared.names.Digits.{Digits}
 use Rattle.ta_syntax.specs.declared.names.Spelled.{Spelled}
 use Rattle.ta_syntax.specs.declared.sums.Sign.{Sign}
@@ -30,13 +28,13 @@ use Rattle.ta_syntax.specs.declared.sums.TreeFactor.TheOpen.{Named, Nested, Tree
 use Rattle.ta_syntax.specs.declared.sums.TreeFactor.TheViews.{out-TreeFactor, out-TreeSum, out-TreeTerm}
 use Rattle.ta_syntax.specs.declared.sums.TreeSum.{TreeSum}
 use Rattle.ta_syntax.specs.declared.sums.TreeTerm.{TreeTerm}
-use Rattle.ta_syntax.specs.declared.tree.Tree.{Tree}
 use Rattle.ta_syntax.specs.declared.tree.TreeComparison.{TreeComparison}
 use Rattle.ta_syntax.specs.declared.tree.TreeEvent.{TreeEvent}
 use Rattle.ta_syntax.specs.declared.tree.TreeLocation.{TreeLocation}
 use Rattle.ta_syntax.specs.declared.tree.TreePattern.{TreePattern}
 use Rattle.ta_syntax.specs.declared.tree.TreeRule.{TreeRule}
 use Rattle.ta_syntax.specs.declared.tree.TreeUpdate.{TreeUpdate}
+use Rattle.ta_syntax.specs.declared.fault.FileFault.TheVariants as fault
 
 -- ---- the test
 abbrev fine_name : List (List ℕ) → List ℕ → Bool

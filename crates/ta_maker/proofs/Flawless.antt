@@ -1,28 +1,21 @@
 -- Each automaton of the family is legal, and its pattern occurs in no run.
-use Rattle.ta_maker.proofs.Common.{◌≡◌, ℕ, true, Bool, List, length, refl, sym, subst, inl, inr}
-use Rattle.ta_maker.proofs.Common.{IsFamilyNumber}
+use Rattle.ta_maker.proofs.Common.{◌≡◌, ℕ, true, Bool, List, length, refl, sym, subst, inl, inr, IsFamilyNumber, File, narrow, family, MeansTree, PlainTree}
+use Rattle.ta_maker.proofs.Common.{plain_tree, FileFault, Tree}
 use Rattle.std.specs.Fmt.{digits}
 use Rattle.std.proofs.Common.{leb, leb-true}
-use Rattle.ta_automaton.specs.declared.file.File.{File}
-use Rattle.ta_base.specs.LimitRows.{narrow}
 use Rattle.ta_maker.proofs.FamilySafe.{family_safe, no_cycle, one_pattern}
 use Rattle.ta_maker.proofs.FamilyTrees.{family_legal, family_within}
 use Rattle.ta_maker.proofs.FineTrees.{fine_tree, no_faults}
 use Rattle.ta_maker.proofs.Naming.{of_each}
-use Rattle.ta_maker.specs.Family.{family}
 use Rattle.ta_maker.specs.FamilyLaws.{FamilyIsFlawless}
 use Rattle.ta_meaning.specs.FirstFault.{FirstFault, OfText, OfMeaning, OfScope, ScopeFault}
-use Rattle.ta_meaning.specs.Meaning.{MeansTree}
 use Rattle.ta_syntax.proofs.NoFault.{no_fault, tree_alone}
-use Rattle.ta_syntax.specs.Faults as syntax
-use Rattle.ta_syntax.specs.Grammar.{PlainTree, file_kinds}
-use Rattle.ta_syntax.specs.PlainTrees.{plain_tree}
+use Rattle.ta_syntax.specs.Grammar.{file_kinds}
 use Rattle.ta_syntax.specs.Printed.{printed}
 use Rattle.ta_syntax.specs.TokenLaws.{PrintedHasTokens, TreesAreLegal}
 use Rattle.ta_syntax.specs.TreeOf.{IsTextOf, IsTreeOf}
-use Rattle.ta_syntax.specs.declared.fault.FileFault.{FileFault}
+use Rattle.ta_syntax.specs.Faults as syntax
 use Rattle.ta_syntax.specs.declared.fault.FileFault.TheVariants as fault
-use Rattle.ta_syntax.specs.declared.tree.Tree.{Tree}
 
 -- ---- by evaluation, for each number
 family_fine : (k : ℕ) → IsFamilyNumber k → fine_tree (family k) ≡ true

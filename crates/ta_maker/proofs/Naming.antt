@@ -1,17 +1,14 @@
 -- the names of the family are names
 use Rattle.ta_maker.proofs.Common.{◌≡◌, ◌∙◌, ◌≤◌, ◌<◌, ◌+◌, ◌||◌, ◌&&◌, ℕ, suc, zero, Bool, true, false, List, [], ◌∷◌, ◌++◌, refl, sym, ap, subst, arith}
-use Rattle.ta_maker.proofs.Common.{IsTrue, codes, IsSum, Term, Terms, lone, name, numbered}
+use Rattle.ta_maker.proofs.Common.{IsTrue, codes, IsSum, Term, Terms, lone, name, numbered, AllByRecursion, and_parts, IsNameText, IsFamilyNumber}
 use Rattle.std.proofs.lemmas.Fmt.{decimal_digit}
 use Rattle.std.specs.Char.{is_ascii_digit}
-use Rattle.std.specs.List.{AllByRecursion}
 use Rattle.std.specs.Str.{bytes_eq}
-use Rattle.std.proofs.lemmas.Bool.{and_parts}
-use Rattle.ta_syntax.specs.Kinds.{IsNameText, mark_bytes}
+use Rattle.ta_syntax.specs.Kinds.{mark_bytes}
 use Rattle.ta_base.specs.Bytes.{is_letter, is_word}
 use Rattle.ta_syntax.specs.declared.tokens.Mark.{Mark}
-use Rattle.ta_syntax.specs.declared.tokens.Mark.TheVariants as mark
 use Rattle.ta_syntax.specs.PlainSums.{sum_depth}
-use Rattle.ta_maker.specs.Made.{IsFamilyNumber}
+use Rattle.ta_syntax.specs.declared.tokens.Mark.TheVariants as mark
 
 ends_with_digit : List ℕ → Bool
 ends_with_digit [] = false

@@ -1,7 +1,6 @@
 -- How the errors of parts make those of the whole: the first of them, or none.
 use Rattle.ta_meaning.proofs.Common.{◌≡◌, Bool, true, false, List, [], ◌∷◌, ◌++◌, Result, Ok, Err, inl, inr, refl, sym, ap, subst, ◌∙◌, FileFault, where_}
-use Rattle.ta_meaning.proofs.Common.{else_, First, FirstOrMemory, Judges, Answers}
-use Rattle.ta_base.proofs.Lists.{empty_before}
+use Rattle.ta_meaning.proofs.Common.{else_, First, FirstOrMemory, Judges, Answers, empty_before}
 
 -- ---- where there are none
 pub where-false : (test : Bool) (f : FileFault) → test ≡ false → where_ test f ≡ []

@@ -1,11 +1,10 @@
 -- In an automaton file neither commas nor the keywords of lists of locations stand inside parentheses. So no token is both too deep and one
 -- too many.
-use Rattle.ta_meaning.proofs.Common.{Limits}
-use Rattle.ta_meaning.proofs.Common.{◌≡◌, ℕ, suc, ◌-◌, ◌<◌, ◌≤◌, Bool, true, false, List, [], ◌∷◌, ◌++◌, refl, sym, subst, arith, inl, inr, Terms, Term, Factor}
-use Rattle.ta_meaning.proofs.Common.{done, term, number, times, alone, blank, named, nested, sum_kinds, more_kinds, term_kinds, factor_kinds, relation_kind}
-use Rattle.ta_meaning.proofs.Common.{PlainRule, PlainEvent, PlainPattern, PlainTree, listed, further, led, ended, each, name_kinds, initial_kinds}
-use Rattle.ta_meaning.proofs.Common.{location_kinds, comparison_kinds, update_kinds, rule_kinds, event_kinds, pattern_kinds, file_kinds, Counts, at_start}
-use Rattle.ta_meaning.proofs.Common.{counted_after, run, StaysWithin, IsDeep, IsMany, Kind, Mark, Relation}
+use Rattle.ta_meaning.proofs.Common.{Limits, ◌≡◌, ℕ, suc, ◌-◌, ◌<◌, ◌≤◌, Bool, true, false, List, [], ◌∷◌, ◌++◌, refl, sym, subst, arith, inl, inr, Terms, Term}
+use Rattle.ta_meaning.proofs.Common.{Factor, done, term, number, times, alone, blank, named, nested, sum_kinds, more_kinds, term_kinds, factor_kinds}
+use Rattle.ta_meaning.proofs.Common.{relation_kind, PlainRule, PlainEvent, PlainPattern, PlainTree, listed, further, led, ended, each, name_kinds}
+use Rattle.ta_meaning.proofs.Common.{initial_kinds, location_kinds, comparison_kinds, update_kinds, rule_kinds, event_kinds, pattern_kinds, file_kinds, Counts}
+use Rattle.ta_meaning.proofs.Common.{at_start, counted_after, run, StaysWithin, IsDeep, IsMany, Kind, Mark, Relation}
 use Rattle.ta_syntax.specs.declared.tokens.Kind.TheVariants as kind
 use Rattle.ta_syntax.specs.declared.tokens.Mark.TheVariants as mark
 use Rattle.ta_syntax.specs.declared.tokens.Relation.TheVariants as relation

@@ -86,15 +86,16 @@ pub use Rattle.ta_base.specs.Lists.{Distinct, EachFrom, Rises, Pairwise}
 pub use Rattle.ta_base.proofs.Ranges.{rises-wider, at_number}
 pub use Rattle.ta_base.proofs.Members.{In-left, In-map, In-right, contains_at, in-here}
 pub use Rattle.ta_base.proofs.Lists.{at_map, at_map_both, at_map_none, cut_in_three, empty-not, get_map, get_of_drop, get_of_map, get_push, heads, next_item}
+pub use Rattle.ta_base.proofs.Lists.{empty_before, empty_both, empty_left, empty_right, slice_range-end}
 pub use Rattle.ta_base.proofs.Lists.{number_gives, place-along, push-split, slice_get-drop, slice_get-take, slice_get-take_within, slice_get_left, tails}
 pub use Rattle.ta_base.proofs.Lists.{within_part, get_end, get_front}
-pub use Rattle.ta_base.proofs.Integers.{add_moved, cond_small, less_alike, less_both, less_one, minus_alike, minus_one_times, more_within, negative_false}
+pub use Rattle.ta_base.proofs.Integers.{add_moved, cond_small, less_alike, minus_alike, minus_one_times, more_within, negative_false}
 pub use Rattle.ta_base.proofs.Integers.{one_times, less_small}
 pub use Rattle.ta_base.proofs.Each.{distinct_at, distinct_drop, distinct_left, distinct_push, distinct_push_apart, distinct_right, distinct_take}
 pub use Rattle.ta_base.proofs.Each.{distinct_unmap, each_append, each_at, each_from-push, each_map_of, each_push, each_weaker, map_each}
 pub use Rattle.ta_base.proofs.ByteLists.{bytes_eq_turned, distinct_names}
 pub use Rattle.ta_base.proofs.Booleans.{both_or_neither, and_false}
-pub use Rattle.ta_base.proofs.Bits.{at_set, mask-one, mask_below, no_bit, set_at}
+pub use Rattle.ta_base.proofs.Bits.{at_set, mask-one, mask_below, no_bit, set_at, one_bit_more}
 pub use Rattle.ta_automaton.specs.declared.rule.Rule.{Rule}
 pub use Rattle.ta_automaton.specs.declared.pattern.Pattern.{Pattern}
 pub use Rattle.ta_automaton.specs.declared.pattern.Event.{Event}
@@ -138,5 +139,6 @@ pub use Rattle.std.proofs.Math.ListN.{drop_of_length-le}
 pub use Rattle.std.proofs.Common.{Bool, Contains, Decides, Err, FitsSigned, Global, IsBitSet, IsTrue, List, None, Ok, Option, Result, Some, String, [], ap}
 pub use Rattle.std.proofs.Common.{append_assoc, arith, below_more, bit_or, cond, drop, eqb, false, get_or, if◌then◌else◌, inl, inr, int_eq, is_some, leb}
 pub use Rattle.std.proofs.Common.{length, length-append, ltb, map, negsuc, not, pos, refl, rules, slice_get, subst, suc, sym, take, tests, true, unsigned_abs}
-pub use Rattle.std.proofs.Common.{w16, w32, w8, zero, ℕ, ℤ, ⊎_elim, ◌%◌, ◌&&◌, ◌*ℤ◌, ◌*◌, ◌++◌, ◌+ℤ◌, ◌+◌, ◌-ℤ◌, ◌-◌, ◌<◌, ◌^◌, ◌||◌, ◌∙◌, ◌∷◌, ◌≡◌, ◌≢◌, ◌≤ℤ◌}
+pub use Rattle.std.proofs.Common.{w16, zero, ℕ, ℤ, ⊎_elim, ◌%◌, ◌&&◌, ◌*ℤ◌, ◌*◌, ◌++◌, ◌+ℤ◌, ◌+◌, ◌-ℤ◌, ◌-◌, ◌<◌, ◌^◌, ◌||◌, ◌∙◌, ◌∷◌, ◌≡◌, ◌≢◌, ◌≤ℤ◌}
 pub use Rattle.std.proofs.Common.{◌≤◌, ◌⊎◌}
+pub use Rattle.ta_base.proofs.Pairwise.{paired_length, pairwise_push}

@@ -1,19 +1,17 @@
 -- The rows of compared forms, and what a comparison and a condition mean.
 use Rattle.ta_meaning.proofs.Common.{◌≡◌, ◌≤◌, ℕ, ℤ, pos, ◌+◌, ◌^◌, ◌-ℤ◌, Bool, List, [], ◌∷◌, ◌++◌, length, map, get_or, Result, sym, ap, subst, ◌∙◌}
-use Rattle.ta_meaning.proofs.Common.{append-nil, append_assoc}
-use Rattle.ta_meaning.proofs.Common.{length-map, AllByRecursion, less_alike, minus_alike, at_map_both, coefficient, Form, Row, Terms, plain_sum}
-use Rattle.ta_meaning.proofs.Common.{plain_comparison, Relation, TreeComparison, FileFault, RowOver, Comparison, Condition, sum_coefficient, sum_constant}
-use Rattle.ta_meaning.proofs.Common.{sum_uses, Difference, FormOf, RowOf, Pairwise, linear_sum, linear_difference, differences_by, comparison_rows, any_large}
-use Rattle.ta_meaning.proofs.Common.{MeansComparison, is_large_linear, Scope, FirstOrMemory, Answers, where_, else_, sum_faults, comparison_faults}
-use Rattle.ta_meaning.proofs.Common.{condition_faults, ResolvedForm, ResolvedComparison, ResolvedCondition, IsDifference, PartOf, is_large_form, any_large_row}
-use Rattle.ta_meaning.proofs.Common.{form_differences, RowOfDifference, refl, arith, each_push, length_push}
-use Rattle.ta_syntax.specs.declared.tokens.Relation.TheVariants as relation
-use Rattle.ta_syntax.specs.declared.fault.FileFault.TheVariants as fault
+use Rattle.ta_meaning.proofs.Common.{append-nil, append_assoc, length-map, AllByRecursion, less_alike, minus_alike, at_map_both, coefficient, Form, Row, Terms}
+use Rattle.ta_meaning.proofs.Common.{plain_sum, plain_comparison, Relation, TreeComparison, FileFault, RowOver, Comparison, Condition, sum_coefficient}
+use Rattle.ta_meaning.proofs.Common.{sum_constant, sum_uses, Difference, FormOf, RowOf, Pairwise, linear_sum, linear_difference, differences_by}
+use Rattle.ta_meaning.proofs.Common.{comparison_rows, any_large, MeansComparison, is_large_linear, Scope, FirstOrMemory, Answers, where_, else_, sum_faults}
+use Rattle.ta_meaning.proofs.Common.{comparison_faults, condition_faults, ResolvedForm, ResolvedComparison, ResolvedCondition, IsDifference, PartOf}
+use Rattle.ta_meaning.proofs.Common.{is_large_form, any_large_row, form_differences, RowOfDifference, refl, arith, each_push, length_push, empty_before}
+use Rattle.ta_meaning.proofs.Common.{empty_both, paired_length}
 use Rattle.ta_meaning.proofs.Answering.{else-left-none, not-where, answers-along, answers-knowing, answers-otherwise, append-left-first, append-right-first}
 use Rattle.ta_meaning.proofs.Answering.{else-left-first}
 use Rattle.ta_meaning.proofs.LargeNumbers.{same_large, same_large_rows, form_over, rows_over}
-use Rattle.ta_base.proofs.Lists.{empty_before, empty_both}
-use Rattle.ta_base.proofs.Pairwise.{paired_length}
+use Rattle.ta_syntax.specs.declared.tokens.Relation.TheVariants as relation
+use Rattle.ta_syntax.specs.declared.fault.FileFault.TheVariants as fault
 
 -- ---- a sum
 

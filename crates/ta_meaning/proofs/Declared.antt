@@ -3,10 +3,9 @@ use Rattle.ta_meaning.proofs.Common.{◌≡◌, ℕ, true, false, not, ◌||◌,
 use Rattle.ta_meaning.proofs.Common.{list_any, AllByRecursion, ltb-false, false≢true, not-false, or_parts, append-nil, bytes_eq-Decides, distinct_push_apart}
 use Rattle.ta_meaning.proofs.Common.{each_append, plain_name, plain_location, Spelled, TreeLocation, Tree, Distinct, Name, has_name, guard_names, all_names}
 use Rattle.ta_meaning.proofs.Common.{location_name, names_of, where_, is_long, declared_faults, declarations_faults, location_spelled, any_initial}
-use Rattle.ta_meaning.proofs.Common.{names_faults}
-use Rattle.ta_syntax.specs.declared.fault.FileFault.TheVariants as fault
+use Rattle.ta_meaning.proofs.Common.{names_faults, empty_left, empty_right}
 use Rattle.ta_meaning.proofs.Answering.{not-where, none-else-left, none-else-right}
-use Rattle.ta_base.proofs.Lists.{empty_left, empty_right}
+use Rattle.ta_syntax.specs.declared.fault.FileFault.TheVariants as fault
 
 -- ---- names among names
 

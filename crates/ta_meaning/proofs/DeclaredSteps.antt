@@ -1,8 +1,7 @@
 -- Declaring names one after another: what is done and what is left.
 use Rattle.ta_meaning.proofs.Common.{◌≡◌, ℕ, List, [], ◌∷◌, ◌++◌, map, refl, sym, ap, ◌∙◌, append_assoc, append-nil, plain_name, Spelled, FileFault}
-use Rattle.ta_meaning.proofs.Common.{FirstOrMemory, declared_faults, declarations_faults}
+use Rattle.ta_meaning.proofs.Common.{FirstOrMemory, declared_faults, declarations_faults, empty_before}
 use Rattle.ta_meaning.proofs.Answering.{append-left-first}
-use Rattle.ta_base.proofs.Lists.{empty_before}
 
 -- names are declared after others, and the rest of them is left
 pub record DeclaredTo (before : List (List ℕ)) (all : List Spelled) (names : List (List ℕ)) (rest : List Spelled) : Type 0 where

@@ -1,11 +1,10 @@
 -- The names of a tree, declared part by part.
 use Rattle.ta_meaning.proofs.Common.{◌≡◌, ℕ, ◌+◌, not, List, [], ◌++◌, length, map, take, drop, sym, ap, subst, ◌∙◌, length-append, length-map, cut_in_three}
 use Rattle.ta_meaning.proofs.Common.{plain_name, plain_location, Spelled, TreeLocation, Tree, FileFault, Names, guard_names, all_names, location_name, names_of}
-use Rattle.ta_meaning.proofs.Common.{where_, is_long, declarations_faults, location_spelled, any_initial, names_faults, FirstOrMemory}
-use Rattle.ta_syntax.specs.declared.fault.FileFault.TheVariants as fault
+use Rattle.ta_meaning.proofs.Common.{where_, is_long, declarations_faults, location_spelled, any_initial, names_faults, FirstOrMemory, empty_both}
 use Rattle.ta_meaning.proofs.Answering.{append-left-first, append-right-first}
 use Rattle.ta_meaning.proofs.Declared.{location_names}
-use Rattle.ta_base.proofs.Lists.{empty_both}
+use Rattle.ta_syntax.specs.declared.fault.FileFault.TheVariants as fault
 
 -- the names so far
 abbrev pub AfterParameters : Tree → List (List ℕ) → Type 0

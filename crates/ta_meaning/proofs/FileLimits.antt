@@ -1,8 +1,7 @@
 -- The automaton of a legal file is within the limits.
-use Rattle.ta_meaning.proofs.Common.{Limits, ◌≡◌, ℕ, List, [], ◌∷◌, arith, length-map, inl, inr, refl, RowOf, IsTreeOf, Tree, FileFault, File}
-use Rattle.ta_meaning.proofs.Common.{Automaton, PlainTree, plain_tree, plain_names, guards_of, MeansRule, MeansAutomaton, meaning_faults, FirstFault, Legal}
+use Rattle.ta_meaning.proofs.Common.{Limits, ◌≡◌, ℕ, List, [], ◌∷◌, arith, length-map, inl, inr, refl, RowOf, IsTreeOf, Tree, FileFault, File, Automaton}
+use Rattle.ta_meaning.proofs.Common.{PlainTree, plain_tree, plain_names, guards_of, MeansRule, MeansAutomaton, meaning_faults, FirstFault, Legal, paired_length}
 use Rattle.ta_automaton.specs.Narrow.{IsWithin}
-use Rattle.ta_base.proofs.Pairwise.{paired_length}
 use Rattle.ta_meaning.proofs.MadeFiles.{FewGuards, few_guards}
 use Rattle.ta_syntax.specs.Limits.{IsTreeWithin}
 

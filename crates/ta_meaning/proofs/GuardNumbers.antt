@@ -1,20 +1,19 @@
 -- what numbering a comparison's row does to the guards so far
-use Rattle.ta_meaning.proofs.Common.{Limits}
-use Rattle.ta_meaning.proofs.Common.{drop, ◌≡◌, ◌⊎◌, inl, inr, ℕ, ◌+◌, ◌≤◌, List, [], ◌∷◌, ◌++◌, map, length, Bool, true, false, not, ltb, ◌&&◌, slice_get}
-use Rattle.ta_meaning.proofs.Common.{Some, Ok, Err, arith, sym, ap, ◌∙◌, refl, subst, list_any, AllByRecursion, map_push, length-map, cond-true, cond-false}
-use Rattle.ta_meaning.proofs.Common.{false_from_ne_true, true≢false, lt-ltb, le-ltb, and_left, and_right, and_from, not_from_true, not_from_false}
+use Rattle.ta_meaning.proofs.Common.{Limits, drop, ◌≡◌, ◌⊎◌, inl, inr, ℕ, ◌+◌, ◌≤◌, List, [], ◌∷◌, ◌++◌, map, length, Bool, true, false, not, ltb, ◌&&◌}
+use Rattle.ta_meaning.proofs.Common.{slice_get, Some, Ok, Err, arith, sym, ap, ◌∙◌, refl, subst, list_any, AllByRecursion, map_push, length-map, cond-true}
+use Rattle.ta_meaning.proofs.Common.{cond-false, false_from_ne_true, true≢false, lt-ltb, le-ltb, and_left, and_right, and_from, not_from_true, not_from_false}
 use Rattle.ta_meaning.proofs.Common.{distinct_push, each_at, each_map_of, each_push, each_weaker, map_each, get_map, get_of_map, IsNormal, Row}
 use Rattle.ta_meaning.proofs.Common.{plain_comparison, TreeComparison, FileFault, Distinct, RowOver, RiseRow, FallRow, Comparison, Names, guard_names, Linear}
 use Rattle.ta_meaning.proofs.Common.{comparison_rows, differences_by, Guards, is_negative, is_positive, falls, has_row, with_row, is_no_threshold, is_one_more}
 use Rattle.ta_meaning.proofs.Common.{is_past_limit, FirstOrMemory, where_, else_, in_guards, comparison_faults, guard_faults, ResolvedComparison, any_shared}
 use Rattle.ta_meaning.proofs.Common.{is_no_guard, Has, RowAnswers, linear_of, guards_so_far, GuardsKept, GuardNumbered, GuardList, length-append, get_end}
-use Rattle.ta_syntax.specs.declared.fault.FileFault.TheVariants as fault
-use Rattle.ta_meaning.specs.declared.guards.GuardNumber.TheVariants as number
 use Rattle.ta_meaning.proofs.ComparedForms.{each_length}
 use Rattle.ta_meaning.proofs.Answering.{where-false, where-first, else-left-none, else-right-first, else-left-first}
 use Rattle.ta_meaning.proofs.NormalTerms.{same_linear, linear_unique}
 use Rattle.ta_meaning.proofs.GuardRows.{has_at, at_has}
 use Rattle.ta_meaning.proofs.GuardSigns.{any_same, rises_each, falls_each, some_shared, falls_same, rows_are, no_threshold_same}
+use Rattle.ta_syntax.specs.declared.fault.FileFault.TheVariants as fault
+use Rattle.ta_meaning.specs.declared.guards.GuardNumber.TheVariants as number
 
 abbrev pub Normal : ℕ → Row → Type 0
 Normal places row = IsNormal 0 places row.form.terms

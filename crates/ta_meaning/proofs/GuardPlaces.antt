@@ -1,8 +1,7 @@
 -- what resolving a comparison over the first places says of a guard
-use Rattle.ta_meaning.proofs.Common.{Limits}
-use Rattle.ta_meaning.proofs.Common.{◌≡◌, ℕ, ◌+◌, List, [], ◌∷◌, take, sym, subst, Row, plain_comparison, TreeComparison, FileFault, Comparison, guard_names}
-use Rattle.ta_meaning.proofs.Common.{Guards, Scope, FirstOrMemory, in_guards, comparison_faults, guard_faults, kinds_of, first_places, ResolvedComparison}
-use Rattle.ta_meaning.proofs.Common.{Places}
+use Rattle.ta_meaning.proofs.Common.{Limits, ◌≡◌, ℕ, ◌+◌, List, [], ◌∷◌, take, sym, subst, Row, plain_comparison, TreeComparison, FileFault, Comparison}
+use Rattle.ta_meaning.proofs.Common.{guard_names, Guards, Scope, FirstOrMemory, in_guards, comparison_faults, guard_faults, kinds_of, first_places}
+use Rattle.ta_meaning.proofs.Common.{ResolvedComparison, Places}
 use Rattle.ta_meaning.proofs.Answering.{else-left-first}
 use Rattle.ta_meaning.proofs.PlaceNames.{guard_names_are, in_guards_are}
 use Rattle.ta_meaning.proofs.GuardNumbers.{OneRow}

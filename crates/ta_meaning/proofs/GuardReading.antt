@@ -1,16 +1,14 @@
 -- the guards of one rule, numbered one after another
-use Rattle.ta_meaning.proofs.Common.{Limits}
-use Rattle.ta_meaning.proofs.Common.{◌≡◌, ◌⊎◌, inl, inr, ℕ, List, [], ◌∷◌, ◌++◌, map, length, true, false, arith, sym, ap, ◌∙◌, refl, subst, append-nil}
+use Rattle.ta_meaning.proofs.Common.{Limits, ◌≡◌, ◌⊎◌, inl, inr, ℕ, List, [], ◌∷◌, ◌++◌, map, length, true, false, arith, sym, ap, ◌∙◌, refl, subst, append-nil}
 use Rattle.ta_meaning.proofs.Common.{length-map, slice_get_within, true≢false, AllByRecursion, each_at, each_push, each_weaker, PlainComparison}
 use Rattle.ta_meaning.proofs.Common.{plain_comparison, TreeComparison, FileFault, Names, guard_names, Linear, UsesNames, Guards, falls, with_row, with_guard}
 use Rattle.ta_meaning.proofs.Common.{with_guards, rows_of, NamesGuards, FirstOrMemory, in_guards, guard_faults, guards_faults, guards_then, guards_so_far}
 use Rattle.ta_meaning.proofs.Common.{GuardsKept, GuardNumbered, GuardsNumbered, AmongGuards, WithNumber, NumberFits, linear_of, GuardList, GuardMasks}
-use Rattle.ta_meaning.proofs.Common.{GuardNumber, append_assoc}
-use Rattle.ta_meaning.specs.declared.guards.GuardNumber.TheVariants as number
+use Rattle.ta_meaning.proofs.Common.{GuardNumber, append_assoc, empty_before}
 use Rattle.ta_meaning.proofs.Answering.{append-left-first}
 use Rattle.ta_meaning.proofs.GuardSteps.{Extends, with_row_cases, guard_falls, guard_rises, extends_guard, guards_append, rows_append, rows_one, among_extends}
 use Rattle.ta_meaning.proofs.GuardSteps.{among_number, mask_kind, mask_other, no_rows, guards_counted}
-use Rattle.ta_base.proofs.Lists.{empty_before}
+use Rattle.ta_meaning.specs.declared.guards.GuardNumber.TheVariants as number
 
 -- a guard's number fits its mask
 pub number_fits : (l : Limits) (ns : Names) (before after : GuardList) (c : PlainComparison) (n : GuardNumber) → GuardNumbered l ns before c after n

@@ -1,13 +1,11 @@
 -- guards one after another: what stays true of masks and of rows among the guards
-use Rattle.ta_meaning.proofs.Common.{Limits}
-use Rattle.ta_meaning.proofs.Common.{◌≡◌, ◌⊎◌, inl, inr, ℕ, ◌<◌, ◌^◌, List, [], ◌∷◌, ◌++◌, map, length, true, false, slice_get, Some, sym, ap, ◌∙◌, refl, subst}
-use Rattle.ta_meaning.proofs.Common.{append-nil, slice_get_within, false≢true, cond-true, cond-false, cases_Bool, mask_below, no_bit, distinct_at, get_push}
-use Rattle.ta_meaning.proofs.Common.{slice_get_left, PlainComparison, plain_comparison, TreeComparison, Distinct, Linear, comparison_rows, Guards, falls}
-use Rattle.ta_meaning.proofs.Common.{has_row, with_row, with_guard, with_guards, rows_of, NamesGuards, Scope, guards_with, guard_faults, guards_faults}
-use Rattle.ta_meaning.proofs.Common.{guards_then, counted, IsGuardNumber, AmongGuards, WithBit, GuardNumber, FileFault, append_assoc}
-use Rattle.ta_meaning.specs.declared.guards.GuardNumber.TheVariants as number
+use Rattle.ta_meaning.proofs.Common.{Limits, ◌≡◌, ◌⊎◌, inl, inr, ℕ, ◌<◌, ◌^◌, List, [], ◌∷◌, ◌++◌, map, length, true, false, slice_get, Some, sym, ap, ◌∙◌}
+use Rattle.ta_meaning.proofs.Common.{refl, subst, append-nil, slice_get_within, false≢true, cond-true, cond-false, cases_Bool, mask_below, no_bit, distinct_at}
+use Rattle.ta_meaning.proofs.Common.{get_push, slice_get_left, PlainComparison, plain_comparison, TreeComparison, Distinct, Linear, comparison_rows, Guards}
+use Rattle.ta_meaning.proofs.Common.{falls, has_row, with_row, with_guard, with_guards, rows_of, NamesGuards, Scope, guards_with, guard_faults, guards_faults}
+use Rattle.ta_meaning.proofs.Common.{guards_then, counted, IsGuardNumber, AmongGuards, WithBit, GuardNumber, FileFault, append_assoc, empty_left, empty_right}
 use Rattle.ta_meaning.proofs.GuardRows.{has_at, at_has, has_left, has_push, has_last}
-use Rattle.ta_base.proofs.Lists.{empty_left, empty_right}
+use Rattle.ta_meaning.specs.declared.guards.GuardNumber.TheVariants as number
 
 -- ---- guards after guards
 

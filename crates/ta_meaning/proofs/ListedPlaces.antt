@@ -4,10 +4,10 @@ use Rattle.ta_meaning.proofs.Common.{Contains, arith, sym, ap, ◌∙◌, refl, 
 use Rattle.ta_meaning.proofs.Common.{false≢true, or_cases, or_left, or_right, false_from_ne_true, not_from_true, take-length, Contains-append_right}
 use Rattle.ta_meaning.proofs.Common.{AllByRecursion, distinct_at, distinct_drop, distinct_take, get_of_drop, Spelled, FileFault, Distinct, all_names, has_name}
 use Rattle.ta_meaning.proofs.Common.{First, where_, used_faults, kinds_of, names_at, variable_faults, IsNewVariable, Places, get_front}
-use Rattle.ta_syntax.specs.declared.fault.FileFault.TheVariants as fault
 use Rattle.ta_meaning.proofs.ListedNames.{has_name-at, has_name-where}
 use Rattle.ta_meaning.proofs.Answering.{where-false, where-leads, else-none, else-left-leads, else-right-leads}
 use Rattle.ta_meaning.proofs.PlaceNames.{all_names_are, locations_count}
+use Rattle.ta_syntax.specs.declared.fault.FileFault.TheVariants as fault
 
 -- ---- names among names
 pub shared_distinct : (places : Places) → Distinct (kinds_of places).shared

@@ -4,14 +4,13 @@ use Rattle.ta_meaning.proofs.Common.{Some, IsBitSet, bit_or, w128, refl, sym, ap
 use Rattle.ta_meaning.proofs.Common.{eqb_tells, Decides-like, Decides-or, bit_at_set_same, bit_at_set_other, append-nil, Contains-append_left, Contains-push}
 use Rattle.ta_meaning.proofs.Common.{Contains-push_cases, slice_get_within, same_Some, bytes_eq-Decides, at_set, no_bit, set_at, distinct_at, each_append}
 use Rattle.ta_meaning.proofs.Common.{contains_at, plain_name, Spelled, FileFault, Distinct, has_name, ListedMask, where_, else_, First, used_faults}
-use Rattle.ta_meaning.proofs.Common.{listed_faults, append_assoc, All-from_recursion, All-contains}
+use Rattle.ta_meaning.proofs.Common.{listed_faults, append_assoc, All-from_recursion, All-contains, empty_before}
 use Rattle.std.proofs.lemmas.Nat.{or_lt, pow_below, pow_pos}
 use Rattle.ta_scope.proofs.Reaching.{bit_of}
-use Rattle.ta_syntax.specs.declared.fault.FileFault.TheVariants as fault
 use Rattle.ta_meaning.proofs.Answering.{where-false, append-left-leads, else-left-leads, else-right-leads, else-none, where-leads}
 use Rattle.ta_meaning.proofs.UsedNames.{rightly_used}
 use Rattle.ta_base.proofs.Members.{contains_cases, contains_from}
-use Rattle.ta_base.proofs.Lists.{empty_before}
+use Rattle.ta_syntax.specs.declared.fault.FileFault.TheVariants as fault
 
 -- the test decides the relation
 pub has_name-Decides : (names : List (List ℕ)) (n : List ℕ) → Decides (has_name names n) (Contains names n)

@@ -1,9 +1,8 @@
 -- A tree without errors of meaning means a file.
-use Rattle.ta_meaning.proofs.Common.{Limits}
-use Rattle.ta_meaning.proofs.Common.{◌≡◌, ◌≤◌, [], ◌++◌, map, length, refl, arith, length-map, distinct_right, plain_sum, plain_location, plain_tree, Tree}
-use Rattle.ta_meaning.proofs.Common.{Automaton, File, names_of, no_guards, linear_sum, is_large_linear, initial_from, MeansAutomaton, MeansTree, where_}
+use Rattle.ta_meaning.proofs.Common.{Limits, ◌≡◌, ◌≤◌, [], ◌++◌, map, length, refl, arith, length-map, distinct_right, plain_sum, plain_location, plain_tree}
+use Rattle.ta_meaning.proofs.Common.{Tree, Automaton, File, names_of, no_guards, linear_sum, is_large_linear, initial_from, MeansAutomaton, MeansTree, where_}
 use Rattle.ta_meaning.proofs.Common.{sum_faults, condition_faults, in_parameters, processes_faults, names_faults, rules_faults, patterns_faults, meaning_faults}
-use Rattle.ta_syntax.specs.declared.fault.FileFault.TheVariants as fault
+use Rattle.ta_meaning.proofs.Common.{empty_left, empty_right, paired_length, List, Row, Rule, Guards, RowOf, ResolvedRules, guards_of, plain_rule}
 use Rattle.ta_meaning.proofs.Answering.{not-where, none-else-left, none-else-right}
 use Rattle.ta_meaning.proofs.Declared.{names-distinct}
 use Rattle.ta_meaning.proofs.DeclaredTrees.{lengths}
@@ -12,9 +11,7 @@ use Rattle.ta_meaning.proofs.Whole.{patterns_shape-of, means_automaton}
 use Rattle.ta_meaning.proofs.MadeForms.{sum_exists, condition_exists}
 use Rattle.ta_meaning.proofs.MadePatterns.{FineNames, patterns_exist}
 use Rattle.ta_meaning.proofs.MadeRules.{rules_exist}
-use Rattle.ta_base.proofs.Lists.{empty_left, empty_right}
-use Rattle.ta_base.proofs.Pairwise.{paired_length}
-use Rattle.ta_meaning.proofs.Common.{List, Row, Rule, Guards, RowOf, ResolvedRules, guards_of, plain_rule}
+use Rattle.ta_syntax.specs.declared.fault.FileFault.TheVariants as fault
 
 fine_names : (t : Tree) → names_faults (names_of t) t ≡ [] → FineNames (names_of t)
 fine_names t none =

@@ -7,17 +7,15 @@ use Rattle.ta_meaning.proofs.Common.{factor_uses, Linear, FormOf, RowOf, Pairwis
 use Rattle.ta_meaning.proofs.Common.{comparison_rows, is_large, is_large_linear, any_large, Scope, WithFaults, where_, linear_term, sum_faults}
 use Rattle.ta_meaning.proofs.Common.{comparison_faults, condition_faults, number_faults, ResolvedForm, ResolvedComparison, ResolvedCondition, SeenTerms}
 use Rattle.ta_meaning.proofs.Common.{SeenTerm, SeenFactor, seen_none, seen_more, seen_number, seen_times, seen_alone, seen_blank, seen_named, seen_nested}
-use Rattle.ta_meaning.proofs.Common.{seen_sum, plain_of_terms, plain_of_term, plain_of_factor}
+use Rattle.ta_meaning.proofs.Common.{seen_sum, plain_of_terms, plain_of_term, plain_of_factor, empty_left, empty_right, paired_length}
 use Rattle.ta_linear.specs.Terms.{IsTerm}
-use Rattle.ta_syntax.specs.declared.tokens.Relation.TheVariants as relation
-use Rattle.ta_syntax.specs.declared.fault.FileFault.TheVariants as fault
 use Rattle.ta_meaning.proofs.Answering.{not-where, none-else-left, none-else-right}
 use Rattle.ta_meaning.proofs.LargeNumbers.{small_tells, same_large, same_large_rows, form_over, rows_over}
 use Rattle.ta_meaning.proofs.ComparedForms.{each_length}
 use Rattle.ta_meaning.proofs.UsedNames.{used_is_allowed}
 use Rattle.ta_meaning.proofs.SeenSums.{judged_of_terms, judged_of_term, judged_of_factor, every_sum_seen}
-use Rattle.ta_base.proofs.Lists.{empty_left, empty_right}
-use Rattle.ta_base.proofs.Pairwise.{paired_length}
+use Rattle.ta_syntax.specs.declared.tokens.Relation.TheVariants as relation
+use Rattle.ta_syntax.specs.declared.fault.FileFault.TheVariants as fault
 
 -- ---- normal terms with given coefficients
 

@@ -3,8 +3,7 @@ use Rattle.ta_meaning.proofs.Common.{◌≡◌, ℕ, ◌*◌, ◌%◌, ◌^◌, 
 use Rattle.ta_meaning.proofs.Common.{arith, same_Some, plain_name, plain_event, plain_pattern, Spelled, TreeEvent, TreePattern, Distinct, Event, Pattern, Names}
 use Rattle.ta_meaning.proofs.Common.{all_names, has_name, where_, else_, in_conditions, declared_faults, used_faults, listed_faults, condition_faults}
 use Rattle.ta_meaning.proofs.Common.{event_faults, events_faults, pattern_faults, patterns_faults, ListedMask, ResolvedPatterns, ResolvedEvent, ResolvedEvents}
-use Rattle.ta_meaning.proofs.Common.{ResolvedPattern}
-use Rattle.ta_syntax.specs.declared.fault.FileFault.TheVariants as fault
+use Rattle.ta_meaning.proofs.Common.{ResolvedPattern, empty_left, empty_right}
 use Rattle.ta_meaning.proofs.Answering.{not-where, none-else-left, none-else-right}
 use Rattle.ta_meaning.proofs.UsedNames.{used_is_allowed}
 use Rattle.ta_meaning.proofs.ListedNames.{has_name-where}
@@ -12,7 +11,7 @@ use Rattle.ta_meaning.proofs.ListedSteps.{has_name-Decides, ListedTo, listing_be
 use Rattle.ta_meaning.proofs.PatternSteps.{EventsTo, events_begin, events_go_on, events_end, few_events, event_resolved, PatternsTo, patterns_begin}
 use Rattle.ta_meaning.proofs.PatternSteps.{patterns_go_on, patterns_end, pattern_resolved}
 use Rattle.ta_meaning.proofs.MadeForms.{condition_exists}
-use Rattle.ta_base.proofs.Lists.{empty_left, empty_right}
+use Rattle.ta_syntax.specs.declared.fault.FileFault.TheVariants as fault
 
 -- the names of places are distinct and few
 pub record FineNames (ns : Names) : Type 0 where

@@ -1,17 +1,13 @@
 -- Rules without an error mean rules and guards.
-use Rattle.ta_meaning.proofs.Common.{Limits}
-use Rattle.ta_base.proofs.Bits.{one_bit_more}
-use Rattle.ta_meaning.proofs.Common.{◌≡◌, ◌⊎◌, inl, inr, ⊎_elim, ℕ, ℤ, pos, ◌*◌, ◌%◌, ◌^◌, ◌<◌, ◌≤◌, Bool, true, false, not, ltb, ◌&&◌, cond, eqb, bit_or, List}
-use Rattle.ta_meaning.proofs.Common.{[], ◌∷◌, ◌++◌, map, length, Ok, Contains, refl, sym, ap, ◌∙◌, arith, w16, w64, cases_Bool, length-map, bit_at_set_same}
-use Rattle.ta_meaning.proofs.Common.{bit_at_set_other, IsNormal, Row, plain_comparison, plain_update, plain_rule, TreeComparison, TreeUpdate, TreeRule, Rule}
-use Rattle.ta_meaning.proofs.Common.{Names, all_names, guard_names, has_name, number_of, no_guards, is_negative, is_positive, falls, has_row, is_no_threshold}
-use Rattle.ta_meaning.proofs.Common.{is_one_more, is_past_limit, Linear, comparison_rows, where_, else_, in_guards, comparison_faults, guard_faults}
-use Rattle.ta_meaning.proofs.Common.{guards_faults, guards_with, declared_faults, used_faults, digits_faults, updates_faults, rule_faults, rules_faults}
-use Rattle.ta_meaning.proofs.Common.{guards_then, any_shared, is_no_guard, Has, RowAnswers, linear_of, guards_so_far, GuardsKept, GuardNumbered, GuardsNumbered}
-use Rattle.ta_meaning.proofs.Common.{NumberFits, WithNumber, names_at, UpdatesRead, RuleRead, ResolvedRules, GuardList, GuardMasks, GuardNumber, length-append}
-use Rattle.ta_meaning.proofs.Common.{and_false, not-false}
-use Rattle.ta_syntax.specs.declared.fault.FileFault.TheVariants as fault
-use Rattle.ta_meaning.specs.declared.guards.GuardNumber.TheVariants as number
+use Rattle.ta_meaning.proofs.Common.{Limits, one_bit_more, ◌≡◌, ◌⊎◌, inl, inr, ⊎_elim, ℕ, ℤ, pos, ◌*◌, ◌%◌, ◌^◌, ◌<◌, ◌≤◌, Bool, true, false, not, ltb, ◌&&◌}
+use Rattle.ta_meaning.proofs.Common.{cond, eqb, bit_or, List, [], ◌∷◌, ◌++◌, map, length, Ok, Contains, refl, sym, ap, ◌∙◌, arith, w16, w64, cases_Bool}
+use Rattle.ta_meaning.proofs.Common.{length-map, bit_at_set_same, bit_at_set_other, IsNormal, Row, plain_comparison, plain_update, plain_rule, TreeComparison}
+use Rattle.ta_meaning.proofs.Common.{TreeUpdate, TreeRule, Rule, Names, all_names, guard_names, has_name, number_of, no_guards, is_negative, is_positive, falls}
+use Rattle.ta_meaning.proofs.Common.{has_row, is_no_threshold, is_one_more, is_past_limit, Linear, comparison_rows, where_, else_, in_guards, comparison_faults}
+use Rattle.ta_meaning.proofs.Common.{guard_faults, guards_faults, guards_with, declared_faults, used_faults, digits_faults, updates_faults, rule_faults}
+use Rattle.ta_meaning.proofs.Common.{rules_faults, guards_then, any_shared, is_no_guard, Has, RowAnswers, linear_of, guards_so_far, GuardsKept, GuardNumbered}
+use Rattle.ta_meaning.proofs.Common.{GuardsNumbered, NumberFits, WithNumber, names_at, UpdatesRead, RuleRead, ResolvedRules, GuardList, GuardMasks, GuardNumber}
+use Rattle.ta_meaning.proofs.Common.{length-append, and_false, not-false, empty_left, empty_right}
 use Rattle.ta_meaning.proofs.Answering.{not-where, none-else-left, none-else-right}
 use Rattle.ta_meaning.proofs.UsedNames.{used_is_allowed}
 use Rattle.ta_meaning.proofs.ListedNames.{has_name-where}
@@ -27,7 +23,8 @@ use Rattle.ta_meaning.proofs.MadeForms.{comparison_exists}
 use Rattle.ta_meaning.proofs.MadePatterns.{FineNames}
 use Rattle.ta_syntax.proofs.BuiltSums.{vec_of}
 use Rattle.std.proofs.lemmas.Bool.{ltb-true}
-use Rattle.ta_base.proofs.Lists.{empty_left, empty_right}
+use Rattle.ta_syntax.specs.declared.fault.FileFault.TheVariants as fault
+use Rattle.ta_meaning.specs.declared.guards.GuardNumber.TheVariants as number
 
 -- ---- updates
 module _ (ns : Names) where

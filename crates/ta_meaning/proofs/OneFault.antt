@@ -1,16 +1,16 @@
 -- A text has at most one first error.
-use Rattle.ta_meaning.proofs.Common.{Limits}
-use Rattle.ta_meaning.proofs.Common.{◌≡◌, ℕ, List, [], ◌∷◌, ◌++◌, length, ◌⊎◌, inl, inr, ⊎_elim, ◌<◌, refl, sym, ap, subst, ◌∙◌, append_assoc, arith, heads}
-use Rattle.ta_meaning.proofs.Common.{FileText, Counts, at_start, run, counted_after, StaysWithin, IsDeep, IsMany, AreTokens, IsRefused, Kind, Token, FileFault}
-use Rattle.ta_meaning.proofs.Common.{tokens_unique, refused_unique, refused_no_tokens, Automaton, File, Means, OfText, OfMeaning, OfScope, FirstFault}
+use Rattle.ta_meaning.proofs.Common.{Limits, ◌≡◌, ℕ, List, [], ◌∷◌, ◌++◌, length, ◌⊎◌, inl, inr, ⊎_elim, ◌<◌, refl, sym, ap, subst, ◌∙◌, append_assoc, arith}
+use Rattle.ta_meaning.proofs.Common.{heads, FileText, Counts, at_start, run, counted_after, StaysWithin, IsDeep, IsMany, AreTokens, IsRefused, Kind, Token}
+use Rattle.ta_meaning.proofs.Common.{FileFault, tokens_unique, refused_unique, refused_no_tokens, Automaton, File, Means, OfText, OfMeaning, OfScope}
+use Rattle.ta_meaning.proofs.Common.{FirstFault}
 use Rattle.ta_syntax.specs.Faults.{kinds, SameStart, Begins, offset_of, IsWrong, IsPast, IsStopped, FaultOfTokens}
-use Rattle.ta_syntax.specs.declared.fault.FileFault.TheVariants as fault
 use Rattle.ta_syntax.proofs.Steps.{kinds-append}
-use Rattle.ta_scope.specs.Faults as scope
-use Rattle.ta_meaning.specs.FirstFault as first
 use Rattle.ta_meaning.proofs.OneTree.{one_meaning, one_meant}
 use Rattle.ta_meaning.proofs.OneReading.{no-text, no-meaning}
 use Rattle.ta_meaning.proofs.CommasOutside.{not-both}
+use Rattle.ta_syntax.specs.declared.fault.FileFault.TheVariants as fault
+use Rattle.ta_scope.specs.Faults as scope
+use Rattle.ta_meaning.specs.FirstFault as first
 
 -- ---- two places in one list
 

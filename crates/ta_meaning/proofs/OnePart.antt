@@ -1,15 +1,15 @@
 -- Comparisons, rules, events, patterns and trees with the same text that are placed on the same tokens are the same.
-use Rattle.ta_base.proofs.Pairwise.{pairwise-equal}
 use Rattle.ta_meaning.proofs.Common.{◌≡◌, Bool, true, false, List, [], ◌∷◌, ◌++◌, sym, ap, subst, append-nil, PlainComparison, PlainLocation, PlainUpdate}
 use Rattle.ta_meaning.proofs.Common.{PlainRule, PlainEvent, PlainPattern, PlainTree, listed, led, ended, each, plain_name, plain_location, plain_update}
 use Rattle.ta_meaning.proofs.Common.{plain_comparison, plain_rule, plain_event, plain_pattern, plain_tree, Offsets, unplaced, at_first, sum_stated, name_stated}
 use Rattle.ta_meaning.proofs.Common.{initial_stated, location_stated, comparison_stated, update_stated, rule_stated, event_stated, pattern_stated, tree_stated}
 use Rattle.ta_meaning.proofs.Common.{TreeComparison, TreeRule, TreeEvent, TreePattern, Tree, Pairwise}
-use Rattle.ta_syntax.specs.declared.tokens.Mark.TheVariants as mark
+use Rattle.ta_base.proofs.Pairwise.{pairwise-equal}
 use Rattle.ta_meaning.proofs.StartedParts.{starts-append, sum-starts}
 use Rattle.ta_meaning.proofs.OneSum.{spelled-same, digits-same, SameSum, same_sum-plain, same_sum-stated, one-sum}
 use Rattle.ta_meaning.proofs.SameOffsets.{Agree, same-first, agree-both, at_first-agree, IsOnce, listed-once, led-once, ended-once, each-once, listed-stated}
 use Rattle.ta_meaning.proofs.SameOffsets.{led-stated, ended-stated, each-stated}
+use Rattle.ta_syntax.specs.declared.tokens.Mark.TheVariants as mark
 
 abbrev Equal : {A : Type 0} → A → A → Type 0
 Equal a b = a ≡ b

@@ -1,15 +1,15 @@
 -- What is read of a text: the file that it means if there is no error, or its first error.
-use Rattle.ta_meaning.proofs.Common.{Limits}
-use Rattle.ta_meaning.proofs.Common.{◌≡◌, ℕ, List, [], ◌⊎◌, inl, inr, ⊎_elim, refl, sym, subst, plain_tree, IsTreeOf, Tree, FileFault, InScope, Automaton, File}
-use Rattle.ta_meaning.proofs.Common.{MeansTree, Means, meaning_faults, FirstOrMemory, OfText, OfMeaning, OfScope, FirstFault, Legal, file_fault}
-use Rattle.ta_syntax.specs.declared.fault.FileFault.TheVariants as fault
-use Rattle.ta_scope.specs.Faults as scope
+use Rattle.ta_meaning.proofs.Common.{Limits, ◌≡◌, ℕ, List, [], ◌⊎◌, inl, inr, ⊎_elim, refl, sym, subst, plain_tree, IsTreeOf, Tree, FileFault, InScope}
+use Rattle.ta_meaning.proofs.Common.{Automaton, File, MeansTree, Means, meaning_faults, FirstOrMemory, OfText, OfMeaning, OfScope, FirstFault, Legal}
+use Rattle.ta_meaning.proofs.Common.{file_fault}
 use Rattle.ta_scope.specs.declared.fault.ScopeFault.{ScopeFault}
-use Rattle.ta_scope.specs.declared.fault.ScopeFault.TheVariants as scope_fault
 use Rattle.ta_scope.specs.declared.scoped.ScopedFile.{ScopedFile}
 use Rattle.ta_scope.proofs.Judging.{fault_out}
-use Rattle.ta_meaning.specs.FirstFault as first
 use Rattle.ta_meaning.proofs.OneTree.{one_meaning, no_text_fault, one_meant}
+use Rattle.ta_syntax.specs.declared.fault.FileFault.TheVariants as fault
+use Rattle.ta_scope.specs.Faults as scope
+use Rattle.ta_scope.specs.declared.fault.ScopeFault.TheVariants as scope_fault
+use Rattle.ta_meaning.specs.FirstFault as first
 
 -- ---- the first error
 

@@ -3,10 +3,10 @@ use Rattle.ta_meaning.proofs.Common.{◌≡◌, ℕ, List, [], ◌∷◌, ◌++�
 use Rattle.ta_meaning.proofs.Common.{Factor, term, number, times, alone, named, nested, IsSum, AreTerms, IsTerm, IsFactor, plain_sum, Offsets, sum_stated, Sign}
 use Rattle.ta_meaning.proofs.Common.{Digits, Spelled, TreeSum, Scope, judged_sum, SeenTerms, SeenTerm, SeenFactor, seen_none, seen_more, seen_number}
 use Rattle.ta_meaning.proofs.Common.{seen_times, seen_alone, seen_blank, seen_named, seen_nested, seen_sum, plain_of_terms, plain_of_term, plain_of_factor}
-use Rattle.ta_syntax.specs.declared.sums.Sign.TheVariants as sign
 use Rattle.ta_meaning.proofs.StartedParts.{factor-starts}
 use Rattle.ta_meaning.proofs.SeenSums.{offsets_of_sum, offsets_of_more, offsets_of_term, offsets_of_factor, judged_of_terms, every_sum_seen}
 use Rattle.ta_meaning.proofs.SameOffsets.{Agree, same-first, same-second, agree-both, at_first-agree}
+use Rattle.ta_syntax.specs.declared.sums.Sign.TheVariants as sign
 
 -- ---- names and numbers
 

@@ -1,15 +1,14 @@
 -- No text has two trees, and none means two files.
-use Rattle.ta_meaning.proofs.Common.{Limits}
-use Rattle.ta_meaning.proofs.Common.{◌≡◌, ℕ, List, subst, PlainTree, IsPlaced, tree_stated, IsTextOf, IsTreeOf, plain_tree, Token, Tree, FileFault}
+use Rattle.ta_meaning.proofs.Common.{Limits, ◌≡◌, ℕ, List, subst, PlainTree, IsPlaced, tree_stated, IsTextOf, IsTreeOf, plain_tree, Token, Tree, FileFault}
 use Rattle.ta_meaning.proofs.Common.{tokens_unique, File, MeansTree, Means, meaning_faults, Legal}
-use Rattle.ta_syntax.specs.Faults as syntax
-use Rattle.ta_syntax.specs.declared.fault.FileFault.TheVariants as fault
 use Rattle.ta_syntax.proofs.NoFault.{no_fault, tree_alone}
 use Rattle.ta_meaning.specs.Laws.{SameTree}
 use Rattle.ta_meaning.proofs.SameOffsets.{placed-agree}
 use Rattle.ta_meaning.proofs.OnePart.{SameParts, tree-once, tree-stated}
 use Rattle.ta_meaning.proofs.SameFaults.{meaning-faults}
 use Rattle.ta_meaning.proofs.OneFile.{one_file}
+use Rattle.ta_syntax.specs.Faults as syntax
+use Rattle.ta_syntax.specs.declared.fault.FileFault.TheVariants as fault
 
 text-of : (l : Limits) (bytes : List ℕ) (t : Tree) → IsTreeOf l bytes t → IsTextOf bytes (plain_tree t)
 text-of l bytes t is = record { tokens = is.tokens; are = is.are; spelled = is.spelled; legal = is.legal }

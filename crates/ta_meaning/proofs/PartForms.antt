@@ -6,8 +6,7 @@ use Rattle.ta_meaning.proofs.Common.{plain_term, plain_factor, plain_terms, term
 use Rattle.ta_meaning.proofs.Common.{signed, number_of, sum_coefficient, term_coefficient, factor_coefficient, sum_constant, term_constant, sum_uses, term_uses}
 use Rattle.ta_meaning.proofs.Common.{factor_uses, FormOf, linear_sum, is_large_linear, Scope, FirstOrMemory, Answers, where_, else_, linear_term, number_faults}
 use Rattle.ta_meaning.proofs.Common.{FormWithin, judged_term, judged_factor, is_large_form, linear_factor, number_or, PartOf, IsSignedSum, less_small, ◌&&◌}
-use Rattle.ta_syntax.specs.declared.sums.Sign.TheVariants as sign
-use Rattle.ta_syntax.specs.declared.fault.FileFault.TheVariants as fault
+use Rattle.ta_meaning.proofs.Common.{TreeSum, Spelled, nested, plain_sum, sum_faults, used_faults, empty_before, empty_both}
 use Rattle.ta_meaning.proofs.Answering.{append-left-first, append-right-first, else-none, else-left-first, where-false, not-where, answers-along}
 use Rattle.ta_meaning.proofs.Answering.{answers-knowing}
 use Rattle.ta_meaning.proofs.Answering.{answers-otherwise}
@@ -18,11 +17,11 @@ use Rattle.ta_meaning.proofs.SmallForms.{within_more}
 use Rattle.ta_meaning.proofs.LinearSums.{name_numbers}
 use Rattle.ta_syntax.specs.declared.sums.TreeFactor.{Named, Nested}
 use Rattle.ta_syntax.proofs.SumSteps.{plain_named, plain_nested}
-use Rattle.ta_meaning.proofs.Common.{TreeSum, Spelled, nested, plain_sum, sum_faults, used_faults}
 use Rattle.ta_meaning.proofs.TreeSums.{named_faults, nested_faults, terms_faults, large_term, term_faults_none, term_faults_some, plain_term_none}
 use Rattle.ta_meaning.proofs.TreeSums.{plain_term_some}
 use Rattle.std.proofs.Math.IntN.{+ℤ_idr, +ℤ_idl, *ℤ-zero}
-use Rattle.ta_base.proofs.Lists.{empty_before, empty_both}
+use Rattle.ta_syntax.specs.declared.sums.Sign.TheVariants as sign
+use Rattle.ta_syntax.specs.declared.fault.FileFault.TheVariants as fault
 
 -- ---- names
 one_small : (i x : ℕ) → unsigned_abs (coefficient ((i, pos 1) ∷ []) x) ≤ 1

@@ -1,15 +1,13 @@
 -- Patterns and their events, one after another.
-use Rattle.ta_base.proofs.Pairwise.{pairwise_push}
-use Rattle.ta_meaning.proofs.Common.{◌≡◌, ℕ, ◌+◌, ◌<◌, ◌≤◌, List, [], ◌∷◌, ◌++◌, length, map, refl, sym, ap, subst, ◌∙◌, append_assoc, arith, append-nil}
-use Rattle.ta_meaning.proofs.Common.{length-map, length_push, map_push, AllByRecursion, each_append, each_from-push, PlainEvent, PlainPattern, plain_name}
-use Rattle.ta_meaning.proofs.Common.{plain_comparison, plain_event, plain_pattern, Spelled, TreeEvent, TreePattern, FileFault, Event, Pattern}
+use Rattle.ta_meaning.proofs.Common.{pairwise_push, ◌≡◌, ℕ, ◌+◌, ◌<◌, ◌≤◌, List, [], ◌∷◌, ◌++◌, length, map, refl, sym, ap, subst, ◌∙◌, append_assoc, arith}
+use Rattle.ta_meaning.proofs.Common.{append-nil, length-map, length_push, map_push, AllByRecursion, each_append, each_from-push, PlainEvent, PlainPattern}
+use Rattle.ta_meaning.proofs.Common.{plain_name, plain_comparison, plain_event, plain_pattern, Spelled, TreeEvent, TreePattern, FileFault, Event, Pattern}
 use Rattle.ta_meaning.proofs.Common.{EachFrom, Distinct, Name, EventWithin, event_name, PatternWithin, pattern_name, Names, all_names, Pairwise, MeansEvent}
-use Rattle.ta_meaning.proofs.Common.{MeansEvents, MeansPattern, FirstOrMemory, in_conditions, declared_faults, condition_faults, event_faults}
-use Rattle.ta_meaning.proofs.Common.{events_faults, pattern_faults, patterns_faults, ResolvedCondition, ResolvedPatterns, ListedMask, DeclaredNext}
-use Rattle.ta_meaning.proofs.Common.{ResolvedEvent, ResolvedEvents, ResolvedPattern}
+use Rattle.ta_meaning.proofs.Common.{MeansEvents, MeansPattern, FirstOrMemory, in_conditions, declared_faults, condition_faults, event_faults, events_faults}
+use Rattle.ta_meaning.proofs.Common.{pattern_faults, patterns_faults, ResolvedCondition, ResolvedPatterns, ListedMask, DeclaredNext, ResolvedEvent}
+use Rattle.ta_meaning.proofs.Common.{ResolvedEvents, ResolvedPattern, empty_before, empty_both}
 use Rattle.ta_meaning.proofs.Answering.{append-left-first, append-right-first}
 use Rattle.ta_meaning.proofs.Declared.{declared-legal, declared-distinct}
-use Rattle.ta_base.proofs.Lists.{empty_before, empty_both}
 use Rattle.ta_meaning.specs.Inside.PatternParts.{pattern_head_faults}
 
 declared_next : (before : List (List ℕ)) (n : Spelled) (names : List (List ℕ)) → Distinct before → declared_faults before n ≡ [] → names ≡ before ++ n.name ∷ []

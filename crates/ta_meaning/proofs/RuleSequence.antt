@@ -1,13 +1,12 @@
 -- rules read one after another, and the guards of all of them
-use Rattle.ta_meaning.proofs.Common.{Limits}
-use Rattle.ta_base.proofs.Pairwise.{pairwise_with, pairwise_push, pairwise_each}
-use Rattle.ta_meaning.proofs.Common.{◌≡◌, ℕ, ◌≤◌, List, [], ◌∷◌, ◌++◌, map, length, Bool, true, false, arith, sym, ap, ◌∙◌, refl, subst, append-nil, map_push}
-use Rattle.ta_meaning.proofs.Common.{true≢false, cond-true, cond-false, AllByRecursion, distinct_push, distinct_unmap, each_at, each_weaker, Row, PlainRule}
-use Rattle.ta_meaning.proofs.Common.{plain_rule, TreeRule, FileFault, Distinct, RiseRow, FallRow, RuleWithin, name_of, Rule, Names, guard_names, all_names}
-use Rattle.ta_meaning.proofs.Common.{Linear, Pairwise, RowOf, Guards, no_guards, falls, has_row, with_guards, rows_of, guards_after, NamesGuards, MeansRule}
-use Rattle.ta_meaning.proofs.Common.{guards_of, FirstOrMemory, in_guards, declared_faults, guards_with, rule_faults, rules_faults, used_faults, guards_faults}
-use Rattle.ta_meaning.proofs.Common.{updates_faults, ResolvedGuards, ResolvedRules, linear_of, guards_so_far, GuardsKept, AmongGuards, RuleSoFar, RuleRead}
-use Rattle.ta_meaning.proofs.Common.{GuardList, append_assoc}
+use Rattle.ta_meaning.proofs.Common.{Limits, pairwise_push, ◌≡◌, ℕ, ◌≤◌, List, [], ◌∷◌, ◌++◌, map, length, Bool, true, false, arith, sym, ap, ◌∙◌, refl, subst}
+use Rattle.ta_meaning.proofs.Common.{append-nil, map_push, true≢false, cond-true, cond-false, AllByRecursion, distinct_push, distinct_unmap, each_at}
+use Rattle.ta_meaning.proofs.Common.{each_weaker, Row, PlainRule, plain_rule, TreeRule, FileFault, Distinct, RiseRow, FallRow, RuleWithin, name_of, Rule, Names}
+use Rattle.ta_meaning.proofs.Common.{guard_names, all_names, Linear, Pairwise, RowOf, Guards, no_guards, falls, has_row, with_guards, rows_of, guards_after}
+use Rattle.ta_meaning.proofs.Common.{NamesGuards, MeansRule, guards_of, FirstOrMemory, in_guards, declared_faults, guards_with, rule_faults, rules_faults}
+use Rattle.ta_meaning.proofs.Common.{used_faults, guards_faults, updates_faults, ResolvedGuards, ResolvedRules, linear_of, guards_so_far, GuardsKept}
+use Rattle.ta_meaning.proofs.Common.{AmongGuards, RuleSoFar, RuleRead, GuardList, append_assoc, empty_before, empty_left, empty_right}
+use Rattle.ta_base.proofs.Pairwise.{pairwise_with, pairwise_each}
 use Rattle.ta_meaning.proofs.Declared.{declared-new}
 use Rattle.ta_meaning.proofs.Answering.{append-left-first}
 use Rattle.ta_meaning.proofs.NormalTerms.{linear_row}
@@ -16,7 +15,6 @@ use Rattle.ta_meaning.proofs.GuardNumbers.{Normal, guards_same, rise_normal, fal
 use Rattle.ta_meaning.proofs.GuardSteps.{Extends, extends_guards, guards_with_rows, among_extends, mask_later}
 use Rattle.ta_meaning.proofs.ListedNames.{has_name-at}
 use Rattle.ta_meaning.proofs.RuleSteps.{rows_fit}
-use Rattle.ta_base.proofs.Lists.{empty_before, empty_left, empty_right}
 
 -- ---- pairs
 pairwise_rows : (places : ℕ) (rows : List Row) → AllByRecursion (Normal places) rows → Pairwise RowOf (map (linear_of places) rows) rows

@@ -1,13 +1,11 @@
 -- the parts of one rule
-use Rattle.ta_meaning.proofs.Common.{Limits}
-use Rattle.ta_meaning.proofs.Common.{◌≡◌, ℕ, ℤ, ◌<◌, ◌^◌, List, [], ◌∷◌, ◌++◌, map, length, slice_get, Some, arith, sym, subst, slice_get_within, length-map}
-use Rattle.ta_meaning.proofs.Common.{Row, plain_comparison, plain_update, TreeRule, FileFault, Name, Rule, Names, all_names, guard_names, Linear, Guards}
-use Rattle.ta_meaning.proofs.Common.{NamesGuards, rows_of, FirstOrMemory, declared_faults, used_faults, in_guards, guards_faults, updates_faults, rule_faults}
-use Rattle.ta_meaning.proofs.Common.{linear_of, guards_so_far, GuardsNumbered, UpdatesRead, RuleRead, GuardList, GuardMasks}
+use Rattle.ta_meaning.proofs.Common.{Limits, ◌≡◌, ℕ, ℤ, ◌<◌, ◌^◌, List, [], ◌∷◌, ◌++◌, map, length, slice_get, Some, arith, sym, subst, slice_get_within}
+use Rattle.ta_meaning.proofs.Common.{length-map, Row, plain_comparison, plain_update, TreeRule, FileFault, Name, Rule, Names, all_names, guard_names, Linear}
+use Rattle.ta_meaning.proofs.Common.{Guards, NamesGuards, rows_of, FirstOrMemory, declared_faults, used_faults, in_guards, guards_faults, updates_faults}
+use Rattle.ta_meaning.proofs.Common.{rule_faults, linear_of, guards_so_far, GuardsNumbered, UpdatesRead, RuleRead, GuardList, GuardMasks, empty_both}
 use Rattle.ta_meaning.proofs.Declared.{declared-legal}
 use Rattle.ta_meaning.proofs.Answering.{append-left-first, append-right-first}
 use Rattle.ta_meaning.proofs.GuardSteps.{mask_fits}
-use Rattle.ta_base.proofs.Lists.{empty_both}
 
 -- ---- the first error of a rule
 

@@ -1,15 +1,14 @@
 -- Trees that are the same but for where their sums' lists lie in memory have the same errors.
-use Rattle.ta_meaning.proofs.Common.{Limits}
-use Rattle.ta_meaning.proofs.Common.{◌≡◌, ℕ, List, [], ◌∷◌, ◌++◌, length, map, refl, ap, ◌∙◌, Terms, plain_tree, TreeSum, TreeComparison, TreeRule, TreeEvent}
-use Rattle.ta_meaning.proofs.Common.{TreePattern, Tree, FileFault, Names, guard_names, all_names, names_of, plain_names, Pairwise, comparison_rows, any_large}
-use Rattle.ta_meaning.proofs.Common.{is_large_linear, linear_sum, Guards, no_guards, with_guards, is_no_threshold, is_one_more, Scope, WithFaults, where_}
-use Rattle.ta_meaning.proofs.Common.{else_, is_long, declared_faults, declarations_faults, used_faults, listed_faults, sum_faults, comparison_faults}
+use Rattle.ta_meaning.proofs.Common.{Limits, ◌≡◌, ℕ, List, [], ◌∷◌, ◌++◌, length, map, refl, ap, ◌∙◌, Terms, plain_tree, TreeSum, TreeComparison, TreeRule}
+use Rattle.ta_meaning.proofs.Common.{TreeEvent, TreePattern, Tree, FileFault, Names, guard_names, all_names, names_of, plain_names, Pairwise, comparison_rows}
+use Rattle.ta_meaning.proofs.Common.{any_large, is_large_linear, linear_sum, Guards, no_guards, with_guards, is_no_threshold, is_one_more, Scope, WithFaults}
+use Rattle.ta_meaning.proofs.Common.{where_, else_, is_long, declared_faults, declarations_faults, used_faults, listed_faults, sum_faults, comparison_faults}
 use Rattle.ta_meaning.proofs.Common.{condition_faults, guard_faults, guards_faults, guards_with, in_parameters, in_guards, in_conditions, updates_faults}
 use Rattle.ta_meaning.proofs.Common.{rule_faults, rules_faults, event_faults, events_faults, pattern_faults, patterns_faults, location_spelled, any_initial}
 use Rattle.ta_meaning.proofs.Common.{processes_faults, names_faults, meaning_faults, counted, guards_then, not}
-use Rattle.ta_syntax.specs.declared.fault.FileFault.TheVariants as fault
 use Rattle.ta_meaning.proofs.OneSum.{SameSum, same_sum-plain, same_sum-judged}
 use Rattle.ta_meaning.proofs.OnePart.{SameComparison, same_comparison-plain, SameRule, SameEvent, SamePattern, SameParts}
+use Rattle.ta_syntax.specs.declared.fault.FileFault.TheVariants as fault
 
 -- ---- sums and comparisons
 

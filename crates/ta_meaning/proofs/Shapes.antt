@@ -1,10 +1,8 @@
 -- What an automaton's type keeps, of the parts that a tree resolves to
-use Rattle.ta_meaning.proofs.Common.{Limits}
-use Rattle.ta_base.proofs.Pairwise.{paired_length}
-use Rattle.ta_meaning.proofs.Common.{ℕ, ◌+◌, ◌≤◌, ◌<◌, ◌≡◌, true, false, ◌||◌, if◌then◌else◌, List, [], ◌∷◌, length, map, arith, length-map, PlainLocation}
-use Rattle.ta_meaning.proofs.Common.{plain_location, TreeLocation, Rises, initial_from, plain_sum, plain_comparison, plain_rule, Tree, Form, Row, Condition}
-use Rattle.ta_meaning.proofs.Common.{Rule, AutomatonShape, names_of, location_name, ResolvedForm, ResolvedCondition, ResolvedRules, any_initial, names_faults}
-use Rattle.ta_meaning.proofs.Common.{rises-wider}
+use Rattle.ta_meaning.proofs.Common.{Limits, paired_length, ℕ, ◌+◌, ◌≤◌, ◌<◌, ◌≡◌, true, false, ◌||◌, if◌then◌else◌, List, [], ◌∷◌, length, map, arith}
+use Rattle.ta_meaning.proofs.Common.{length-map, PlainLocation, plain_location, TreeLocation, Rises, initial_from, plain_sum, plain_comparison, plain_rule}
+use Rattle.ta_meaning.proofs.Common.{Tree, Form, Row, Condition, Rule, AutomatonShape, names_of, location_name, ResolvedForm, ResolvedCondition, ResolvedRules}
+use Rattle.ta_meaning.proofs.Common.{any_initial, names_faults, rises-wider}
 use Rattle.ta_meaning.proofs.Declared.{name-legal, names-legal, names-distinct, some_initial}
 
 -- the numbers of the marked locations rise

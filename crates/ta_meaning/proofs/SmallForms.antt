@@ -1,7 +1,7 @@
 -- Forms with small numbers: their sums, negatives and multiples.
 use Rattle.ta_meaning.proofs.Common.{◌≡◌, ℕ, ℤ, pos, negsuc, ◌^◌, ◌≤◌, ◌+ℤ◌, ◌-ℤ◌, ◌*ℤ◌, unsigned_abs, List, inl, inr, ap, ◌∙◌, arith, ints, unsigned_abs-mul}
-use Rattle.ta_meaning.proofs.Common.{mul-le-mul, minus_one_times, InRange, coefficient, IsMultiple, MultipleOutOfRange, Form, Result}
-use Rattle.ta_meaning.proofs.Common.{Ok, Err, MatchResult, FileFault, FitsSigned, rules, w128, ◌<◌, FormWithin, IsDifference, IsSignedSum}
+use Rattle.ta_meaning.proofs.Common.{mul-le-mul, minus_one_times, InRange, coefficient, IsMultiple, MultipleOutOfRange, Form, Result, Ok, Err, MatchResult}
+use Rattle.ta_meaning.proofs.Common.{FileFault, FitsSigned, rules, w128, ◌<◌, FormWithin, IsDifference, IsSignedSum}
 use Rattle.ta_linear.specs.Forms.{IsSum}
 use Rattle.ta_syntax.specs.declared.sums.Sign.TheVariants as sign
 use Rattle.ta_syntax.specs.declared.fault.FileFault.TheVariants as fault

@@ -2,8 +2,8 @@
 use Rattle.ta_meaning.proofs.Common.{ℕ, List, [], ◌∷◌, ◌++◌, sym, subst, IsSum, IsTerm, plain_sum, Offsets, at_first, sum_stated, TreeSum, SeenTerms, SeenTerm}
 use Rattle.ta_meaning.proofs.Common.{SeenFactor, seen_none, seen_more, seen_number, seen_times, seen_alone, seen_blank, seen_named, seen_nested, plain_of_terms}
 use Rattle.ta_meaning.proofs.Common.{plain_of_term, seen_sum}
-use Rattle.ta_syntax.specs.declared.sums.Sign.TheVariants as sign
 use Rattle.ta_meaning.proofs.SeenSums.{offsets_of_sum, offsets_of_more, offsets_of_term, offsets_of_factor, SeenSum, every_sum_seen}
+use Rattle.ta_syntax.specs.declared.sums.Sign.TheVariants as sign
 
 -- a part with a token
 abbrev pub Starts : List Offsets → Type 0

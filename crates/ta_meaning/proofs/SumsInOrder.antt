@@ -5,13 +5,13 @@ use Rattle.ta_meaning.proofs.Common.{linear_sum, comparison_rows, is_large_linea
 use Rattle.ta_meaning.proofs.Common.{used_faults, digits_faults, sum_faults, linear_term, comparison_faults, condition_faults, SeenTerms, SeenTerm, SeenFactor}
 use Rattle.ta_meaning.proofs.Common.{seen_none, seen_more, seen_number, seen_times, seen_alone, seen_blank, seen_named, seen_nested, plain_of_terms}
 use Rattle.ta_meaning.proofs.Common.{plain_of_term, plain_of_factor, seen_sum, Bool, not, ltb}
-use Rattle.ta_syntax.specs.declared.sums.Sign.TheVariants as sign
-use Rattle.ta_syntax.specs.declared.fault.FileFault.TheVariants as fault
 use Rattle.ta_meaning.proofs.StartedParts.{factor-starts, sum-starts, Starts, starts-append}
 use Rattle.ta_meaning.proofs.SeenSums.{offsets_of_sum, offsets_of_more, offsets_of_term, offsets_of_factor, judged_of_terms, judged_of_term, judged_of_factor}
 use Rattle.ta_meaning.proofs.SeenSums.{SeenSum, every_sum_seen}
 use Rattle.ta_meaning.proofs.InOrder.{InOrder, IsInside, inside-name, inside-at_first, no_faults, one, either, together, after_token, before_tokens, with_first}
 use Rattle.ta_meaning.proofs.InOrder.{Items}
+use Rattle.ta_syntax.specs.declared.sums.Sign.TheVariants as sign
+use Rattle.ta_syntax.specs.declared.fault.FileFault.TheVariants as fault
 
 -- ---- names and numbers
 

@@ -1,6 +1,5 @@
 -- Each error in the list of a tree's errors is an error of the table.
-use Rattle.ta_meaning.proofs.Common.{Limits}
-use Rattle.ta_meaning.proofs.Common.{◌≡◌, inl, inr, ℕ, Bool, true, false, not, ltb, ◌&&◌, List, [], ◌∷◌, ◌++◌, length, map, refl, sym, ap, subst, ◌∙◌}
+use Rattle.ta_meaning.proofs.Common.{Limits, ◌≡◌, inl, inr, ℕ, Bool, true, false, not, ltb, ◌&&◌, List, [], ◌∷◌, ◌++◌, length, map, refl, sym, ap, subst, ◌∙◌}
 use Rattle.ta_meaning.proofs.Common.{append_assoc, flat_map, bytes_eq, false≢true, true≢false, or_cases, not-false, cases_Bool, cond-true, cond-false, not-true}
 use Rattle.ta_meaning.proofs.Common.{Decides-ltb, append-nil, map-append, map_push, bytes_eq-Decides, AllByRecursion, distinct_push_apart, each_append}
 use Rattle.ta_meaning.proofs.Common.{each_push, each_weaker, push-split, In-left, In-map, In-right, in-here, plain_sum, plain_name, plain_comparison, Terms}
@@ -16,7 +15,6 @@ use Rattle.ta_meaning.proofs.Common.{seen_number, seen_times, seen_alone, seen_b
 use Rattle.ta_meaning.proofs.Common.{plain_of_factor, names_of_terms, names_of_term, names_of_factor, numbers_of_terms, numbers_of_term, numbers_of_factor}
 use Rattle.ta_meaning.proofs.Common.{PlacedTerm, placed, terms_of_terms, terms_of_term, terms_of_factor, and_parts, or_parts, ltb-false}
 use Rattle.std.proofs.lemmas.Grind.{flat_map-append}
-use Rattle.ta_syntax.specs.declared.fault.FileFault.TheVariants as fault
 use Rattle.ta_meaning.specs.Table.{Repeats, rule_name, tree_pattern_name, tree_event_name, updated_name, place_names, AreApart, apart_places, apart_rules}
 use Rattle.ta_meaning.specs.Table.{apart_patterns, apart_events, apart_updates, apart_empty, apart_after, IsDeclared, declared_file, declared_place}
 use Rattle.ta_meaning.specs.Table.{declared_rule, declared_pattern, declared_event, HasComparison, in_resilience, in_guard, in_start, in_event, HasSum}
@@ -28,6 +26,7 @@ use Rattle.ta_meaning.proofs.Answering.{not-where, none-else-left, none-else-rig
 use Rattle.ta_meaning.proofs.GuardRows.{row_decides}
 use Rattle.ta_meaning.proofs.GuardSteps.{guard_falls, guard_rises}
 use Rattle.ta_meaning.proofs.SeenSums.{judged_of_terms, judged_of_term, judged_of_factor, SeenSum, every_sum_seen}
+use Rattle.ta_syntax.specs.declared.fault.FileFault.TheVariants as fault
 
 -- ---- lists of errors
 each-where : (P : FileFault → Type 0) (test : Bool) (f : FileFault) → (test ≡ true → P f) → AllByRecursion P (where_ test f)

@@ -1,15 +1,15 @@
 -- A text is a legal file, or has a first error.
-use Rattle.ta_meaning.proofs.Common.{Limits}
-use Rattle.ta_meaning.proofs.Common.{◌≡◌, ◌≢◌, ℕ, ◌≤◌, List, [], ◌∷◌, length, inl, inr, refl, IsTreeOf, Tree, FileFault, InScope, meaning_faults, OfText}
-use Rattle.ta_syntax.specs.Faults as syntax
+use Rattle.ta_meaning.proofs.Common.{Limits, ◌≡◌, ◌≢◌, ℕ, ◌≤◌, List, [], ◌∷◌, length, inl, inr, refl, IsTreeOf, Tree, FileFault, InScope, meaning_faults}
+use Rattle.ta_meaning.proofs.Common.{OfText}
 use Rattle.ta_syntax.specs.AnswerLaws.{Either, HasTree, HasGrammarFault}
-use Rattle.ta_syntax.specs.declared.fault.FileFault.TheVariants as fault
 use Rattle.ta_syntax.proofs.TextTrees.{texts_have_trees}
-use Rattle.ta_scope.specs.Faults as scope
 use Rattle.ta_scope.proofs.ScopeAnswers.{scope_answers}
 use Rattle.ta_meaning.specs.Answers.{HasFile, HasFault}
 use Rattle.ta_meaning.proofs.OneReading.{is-legal}
 use Rattle.ta_meaning.proofs.MadeFiles.{file_exists}
+use Rattle.ta_syntax.specs.Faults as syntax
+use Rattle.ta_syntax.specs.declared.fault.FileFault.TheVariants as fault
+use Rattle.ta_scope.specs.Faults as scope
 
 of_text : (l : Limits) (bytes : List ℕ) (e : FileFault) → e ≢ fault.Memory → syntax.FirstGrammarFault l bytes e → OfText l bytes e
 of_text l bytes fault.Memory some f = absurd (some refl)

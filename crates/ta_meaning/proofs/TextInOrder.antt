@@ -1,6 +1,5 @@
 -- The tokens of a text lie one after another in it, and so the errors of what it means rise.
-use Rattle.ta_meaning.proofs.Common.{Limits}
-use Rattle.ta_meaning.proofs.Common.{ℕ, ◌+◌, ◌≤◌, ◌<◌, ◌≡◌, List, [], ◌∷◌, ◌++◌, length, length-append, map, inl, inr, sym, ap, subst, ◌∙◌, arith}
+use Rattle.ta_meaning.proofs.Common.{Limits, ℕ, ◌+◌, ◌≤◌, ◌<◌, ◌≡◌, List, [], ◌∷◌, ◌++◌, length, length-append, map, inl, inr, sym, ap, subst, ◌∙◌, arith}
 use Rattle.ta_meaning.proofs.Common.{AllByRecursion, each_weaker, kind_bytes, ScansTo, IsLastGap, Offsets, IsPlaced, tree_stated, IsTreeOf, Token, Tree}
 use Rattle.ta_meaning.proofs.Common.{FileFault, Rises, meaning_faults, fault_offset, IsOfMeaning, IsTokenAt}
 use Rattle.ta_syntax.proofs.Scans.{kind_some}

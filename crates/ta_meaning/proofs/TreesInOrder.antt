@@ -1,6 +1,5 @@
 -- The errors of rules, events, patterns and of a whole tree rise within their tokens.
-use Rattle.ta_meaning.proofs.Common.{Limits}
-use Rattle.ta_meaning.proofs.Common.{ℕ, List, [], ◌∷◌, ◌++◌, length, map, refl, sym, append_assoc, listed, led, ended, each, plain_comparison, Offsets}
+use Rattle.ta_meaning.proofs.Common.{Limits, ℕ, List, [], ◌∷◌, ◌++◌, length, map, refl, sym, append_assoc, listed, led, ended, each, plain_comparison, Offsets}
 use Rattle.ta_meaning.proofs.Common.{unplaced, at_first, sum_stated, name_stated, initial_stated, location_stated, comparison_stated, update_stated}
 use Rattle.ta_meaning.proofs.Common.{rule_stated, event_stated, pattern_stated, tree_stated, Spelled, TreeComparison, TreeLocation, TreeUpdate, TreeRule}
 use Rattle.ta_meaning.proofs.Common.{TreeEvent, TreePattern, Tree, FileFault, has_name, Linear, comparison_rows, Names, guard_names, all_names, names_of}
@@ -8,13 +7,13 @@ use Rattle.ta_meaning.proofs.Common.{Guards, no_guards, is_no_threshold, is_one_
 use Rattle.ta_meaning.proofs.Common.{used_faults, listed_faults, digits_faults, comparison_faults, condition_faults, guard_faults, guards_faults, guards_with}
 use Rattle.ta_meaning.proofs.Common.{in_parameters, in_guards, in_conditions, updates_faults, rule_faults, rules_faults, event_faults, events_faults}
 use Rattle.ta_meaning.proofs.Common.{pattern_faults, patterns_faults, location_spelled, any_initial, processes_faults, meaning_faults, guards_then, not}
-use Rattle.ta_syntax.specs.declared.tokens.Mark.TheVariants as mark
-use Rattle.ta_syntax.specs.declared.fault.FileFault.TheVariants as fault
 use Rattle.ta_meaning.proofs.InOrder.{InOrder, inside-name, one, either, along, together, after_token, before_tokens, Items, listed-in_order, led-in_order}
 use Rattle.ta_meaning.proofs.InOrder.{ended-in_order, each-in_order}
 use Rattle.ta_meaning.proofs.SumsInOrder.{token, declared-in_order, used-in_order, once-in_order, digits-in_order, whole_sum-in_order, inside-comparison}
 use Rattle.ta_meaning.proofs.SumsInOrder.{comparison-in_order, condition-items}
 use Rattle.ta_base.proofs.Lists.{five_parts}
+use Rattle.ta_syntax.specs.declared.tokens.Mark.TheVariants as mark
+use Rattle.ta_syntax.specs.declared.fault.FileFault.TheVariants as fault
 
 -- ---- lists of names
 names-items : (before : List (List ℕ)) (ns : List Spelled) → Items name_stated ns (declarations_faults before ns)

@@ -4,10 +4,9 @@ use Rattle.ta_meaning.proofs.Common.{Contains, arith, sym, ap, ◌∙◌, refl, 
 use Rattle.ta_meaning.proofs.Common.{Contains-append_right, slice_get_within, get_or_from_slice_get, ltb-false, eqb_tells, AllByRecursion, distinct_push}
 use Rattle.ta_meaning.proofs.Common.{each_at, each_push, each_weaker, contains_at, PlainUpdate, plain_update, TreeUpdate, FileFault, Distinct, Update}
 use Rattle.ta_meaning.proofs.Common.{variable_of, Names, number_of, FirstOrMemory, digits_faults, updates_faults, MeansUpdates, names_at, variable_faults}
-use Rattle.ta_meaning.proofs.Common.{IsNewVariable, UpdatesRead, append_assoc, length-append}
-use Rattle.ta_syntax.specs.declared.fault.FileFault.TheVariants as fault
+use Rattle.ta_meaning.proofs.Common.{IsNewVariable, UpdatesRead, append_assoc, length-append, empty_before}
 use Rattle.ta_meaning.proofs.Answering.{append-left-first, append-right-first, not-where}
-use Rattle.ta_base.proofs.Lists.{empty_before}
+use Rattle.ta_syntax.specs.declared.fault.FileFault.TheVariants as fault
 
 -- the updates so far are read, and the errors of all are those of the updates left
 pub record UpdatesReading (ns : Names) (all left : List TreeUpdate) (seen : List ℕ) (updates : List (ℕ × ℤ)) : Type 0 where

@@ -1,9 +1,9 @@
 -- The errors of used and of declared names.
 use Rattle.ta_meaning.proofs.Common.{inr, ◌≡◌, ℕ, true, false, not, List, [], ap, not-false, Spelled, FileFault, has_name, First, FirstOrMemory, where_}
 use Rattle.ta_meaning.proofs.Common.{is_long, used_faults, declared_faults}
-use Rattle.ta_syntax.specs.declared.fault.FileFault.TheVariants as fault
 use Rattle.ta_meaning.proofs.Answering.{where-leads, else-left-leads, else-right-leads, where-first, where-false, not-where, else-left-first, else-right-first}
 use Rattle.ta_meaning.proofs.Answering.{else-none, none-else-right}
+use Rattle.ta_syntax.specs.declared.fault.FileFault.TheVariants as fault
 
 pub unknown : (names allowed : List (List ℕ)) (n : Spelled) → has_name names n.name ≡ false → First (used_faults names allowed n) (fault.Unknown n.at)
 unknown names allowed n none =

@@ -1,18 +1,15 @@
 -- The errors of a tree from those of its parts
-use Rattle.ta_meaning.proofs.Common.{Limits}
-use Rattle.ta_meaning.proofs.Common.{ℕ, ◌+◌, ◌≡◌, List, [], ◌++◌, append_assoc, take, map, length, length-append, Result, refl, sym, ap, subst, ◌∙◌, Vec, Form}
-use Rattle.ta_meaning.proofs.Common.{Row, plain_sum}
-use Rattle.ta_meaning.proofs.Common.{plain_comparison, plain_location, plain_rule, plain_pattern, plain_tree, Tree, FileFault, Condition, Pattern, Rule, Places}
-use Rattle.ta_meaning.proofs.Common.{Automaton, PatternsShape, MeansAutomaton, initial_from, Names, guard_names, all_names, names_of, linear_sum}
-use Rattle.ta_meaning.proofs.Common.{is_large_linear, no_guards, where_, else_, sum_faults, condition_faults, processes_faults, in_parameters, rules_faults}
-use Rattle.ta_meaning.proofs.Common.{patterns_faults, names_faults, meaning_faults, Scope, FirstOrMemory, Answers, kinds_of, first_places, ResolvedForm}
-use Rattle.ta_meaning.proofs.Common.{ResolvedCondition, ResolvedRules, ResolvedPatterns}
-use Rattle.ta_syntax.specs.declared.fault.FileFault.TheVariants as fault
+use Rattle.ta_meaning.proofs.Common.{Limits, ℕ, ◌+◌, ◌≡◌, List, [], ◌++◌, append_assoc, take, map, length, length-append, Result, refl, sym, ap, subst, ◌∙◌}
+use Rattle.ta_meaning.proofs.Common.{Vec, Form, Row, plain_sum, plain_comparison, plain_location, plain_rule, plain_pattern, plain_tree, Tree, FileFault}
+use Rattle.ta_meaning.proofs.Common.{Condition, Pattern, Rule, Places, Automaton, PatternsShape, MeansAutomaton, initial_from, Names, guard_names, all_names}
+use Rattle.ta_meaning.proofs.Common.{names_of, linear_sum, is_large_linear, no_guards, where_, else_, sum_faults, condition_faults, processes_faults}
+use Rattle.ta_meaning.proofs.Common.{in_parameters, rules_faults, patterns_faults, names_faults, meaning_faults, Scope, FirstOrMemory, Answers, kinds_of}
+use Rattle.ta_meaning.proofs.Common.{first_places, ResolvedForm, ResolvedCondition, ResolvedRules, ResolvedPatterns, empty_both}
 use Rattle.ta_meaning.specs.declared.rules.Rules.{Rules}
 use Rattle.ta_meaning.specs.Inside.TreeHead.{head_faults, HeadClean}
 use Rattle.ta_meaning.proofs.Answering.{append-left-first, append-right-first}
 use Rattle.ta_meaning.proofs.PlaceNames.{in_parameters_are}
-use Rattle.ta_base.proofs.Lists.{empty_both}
+use Rattle.ta_syntax.specs.declared.fault.FileFault.TheVariants as fault
 
 -- the errors of the sum of `processes` where parameters alone may stand
 abbrev pub processes_in : Scope → Tree → List FileFault

@@ -3,9 +3,9 @@ use Rattle.ta_meaning.proofs.Common.{◌≡◌, ℕ, ◌+◌, ◌*◌, ◌-◌, 
 use Rattle.ta_meaning.proofs.Common.{digits_all, number_of, First, digits_faults}
 use Rattle.std.proofs.lemmas.Int.Digits.{digits_value_more}
 use Rattle.std.proofs.lemmas.Str.Parse.{digits_value-take-le}
-use Rattle.ta_syntax.specs.declared.fault.FileFault.TheVariants as fault
 use Rattle.ta_meaning.proofs.Answering.{where-leads, not-where}
 use Rattle.ta_base.proofs.Digits.{digit_at, value_of_digit}
+use Rattle.ta_syntax.specs.declared.fault.FileFault.TheVariants as fault
 
 -- the number with one more digit
 pub number_more : (ds : List ℕ) (i : ℕ) → IsDigits ds → i < length ds → number_of (take (i + 1) ds) ≡ 10 * number_of (take i ds) + (get_or ds i 0 - 48)

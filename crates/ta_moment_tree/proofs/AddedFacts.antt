@@ -1,17 +1,7 @@
 -- what a fact adds, as the code has it
-use Rattle.ta_moment_tree.proofs.Common.{◌≡◌, ◌∙◌, ℕ, ◌+◌, ◌++◌, ◌∷◌, [], List, true, arith, ap, sym, refl, append-nil, Automaton, Pattern}
-use Rattle.std.proofs.lemmas.Bool.{false≢true}
-use Rattle.ta_encode.specs.Inside.Lines.{IsBehind}
-use Rattle.ta_moments.specs.declared.fact.Fact.{Fact}
-use Rattle.ta_moments.specs.declared.fact.Fact.TheVariants.{Never, First, Stands, Last, Before, After, Same, Vacant, Fails}
-use Rattle.ta_moments.specs.Forms.{UnknownForm}
-use Rattle.ta_moments.specs.Moments.{Known, Moment, Vector, with_fact, with_more}
-use Rattle.ta_moment_tree.specs.Draft.{Added, is_plain, known_of}
-use Rattle.ta_moment_tree.specs.Forms.{vector_of}
-use Rattle.ta_moment_tree.specs.Moments.{moment_of, moments_of}
-use Rattle.ta_moment_tree.specs.Plain.{plain_rows}
-use Rattle.ta_moment_tree.specs.Rows.{AddsForms}
-use Rattle.ta_moment_tree.specs.declared.draft.Draft.{Draft}
+use Rattle.ta_moment_tree.proofs.Common.{◌≡◌, ◌∙◌, ℕ, ◌+◌, ◌++◌, ◌∷◌, [], List, true, arith, ap, sym, refl, append-nil, Automaton, Pattern, false≢true}
+use Rattle.ta_moment_tree.proofs.Common.{IsBehind, Fact, Never, First, Stands, Last, Before, After, Same, Vacant, Fails, UnknownForm, Known, Moment, Vector}
+use Rattle.ta_moment_tree.proofs.Common.{with_fact, with_more, Added, is_plain, known_of, vector_of, moment_of, moments_of, plain_rows, AddsForms, Draft}
 use Rattle.ta_moment_tree.specs.declared.moment.Moment.{Moment as Kept}
 use Rattle.ta_moment_tree.proofs.Adding.{adds_forms}
 use Rattle.ta_moment_tree.proofs.Beginning.{moments_more}

@@ -1,14 +1,7 @@
 -- rows that are written one after another
-use Rattle.std.proofs.Common.{◌≡◌, ◌∙◌, ℕ, ◌+◌, ◌<◌, List, [], ◌∷◌, ◌++◌, get_or, length, map, take, refl, sym, ap, append_assoc}
-use Rattle.std.proofs.Common.{Bool, true, false, cond}
-use Rattle.std.specs.Prelude.{filter, flat_map}
-use Rattle.std.proofs.lemmas.List.{append-nil, map-append, take_more}
-use Rattle.std.proofs.lemmas.List.Elements.{filter-append}
-use Rattle.std.proofs.lemmas.Grind.{flat_map-append}
-use Rattle.ta_linear.specs.declared.row.Row.{Row}
-use Rattle.ta_moments.specs.Forms.{UnknownForm}
-use Rattle.ta_moment_tree.specs.Forms.{form_of, forms_of}
-use Rattle.ta_moment_tree.specs.Rows.{AddsForms}
+use Rattle.ta_moment_tree.proofs.Common.{◌≡◌, ◌∙◌, ℕ, ◌+◌, ◌<◌, List, [], ◌∷◌, ◌++◌, get_or, length, map, take, refl, sym, ap, append_assoc, Bool, true, false}
+use Rattle.ta_moment_tree.proofs.Common.{cond, filter, flat_map, append-nil, map-append, take_more, filter-append, flat_map-append, Row, UnknownForm, form_of}
+use Rattle.ta_moment_tree.proofs.Common.{forms_of, AddsForms}
 
 pub adds_none : (rows : List Row) → AddsForms [] rows rows
 adds_none rows = record { more = []; is = sym (append-nil rows); are = refl }

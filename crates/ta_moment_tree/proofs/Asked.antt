@@ -1,26 +1,16 @@
 -- what a node may ask, and the answers
-use Rattle.std.proofs.Common.{◌≡◌, ◌∙◌, ℕ, ◌+◌, ◌<◌, ◌≤◌, ◌^◌, Bool, true, false, ◌&&◌, cond, nat_lt, List, [], ◌∷◌, length, slice_get, Option, Some, None}
-use Rattle.std.proofs.Common.{refl, sym, ap, arith, lit<}
+use Rattle.ta_moment_tree.proofs.Common.{◌≡◌, ◌∙◌, ℕ, ◌+◌, ◌<◌, ◌≤◌, ◌^◌, Bool, true, false, ◌&&◌, cond, nat_lt, List, [], ◌∷◌, length, slice_get, Option, Some}
+use Rattle.ta_moment_tree.proofs.Common.{None, refl, sym, ap, arith, lit<, length-map, slice_get_within, count_few, Automaton, Pattern, Node, Search}
+use Rattle.ta_moment_tree.proofs.Common.{all_or_none, ask_node, Fact, Never, First, Stands, Last, Before, After, Same, Fails, Question, OfGuard, OfOrder}
+use Rattle.ta_moment_tree.proofs.Common.{OfStuck, guards_of, has_guard, is_open, Known, Asking, answers, are_pairs, Maker, answers_if_open, candidate_of}
+use Rattle.ta_moment_tree.proofs.Common.{exists_as, moment_search}
 use Rattle.std.specs.Option.{is_some}
-use Rattle.std.proofs.lemmas.List.{length-map}
-use Rattle.std.proofs.lemmas.Option.{slice_get_within}
-use Rattle.ta_base.proofs.Ranges.{count_few}
-use Rattle.ta_automaton.specs.declared.automaton.Automaton.{Automaton}
-use Rattle.ta_automaton.specs.declared.pattern.Pattern.{Pattern}
-use Rattle.ta_cert.specs.declared.line.Node.{Node}
-use Rattle.ta_encode.specs.Search.{Search, all_or_none, asked}
-use Rattle.ta_encode.specs.Asking.{ask_node}
+use Rattle.ta_encode.specs.Search.{asked}
 use Rattle.ta_encode.specs.TreeCalls.{AnswerIs, TellsMayAsk}
 use Rattle.ta_encode.specs.declared.ask.Ask.{Ask}
+use Rattle.ta_moments.specs.Moments.{known}
+use Rattle.ta_moments.specs.Searched.{question_in}
 use Rattle.ta_encode.specs.declared.ask.Ask.TheVariants as ask
-use Rattle.ta_moments.specs.declared.fact.Fact.{Fact}
-use Rattle.ta_moments.specs.declared.fact.Fact.TheVariants.{Never, First, Stands, Last, Before, After, Same, Fails}
-use Rattle.ta_moments.specs.declared.fact.Question.{Question}
-use Rattle.ta_moments.specs.declared.fact.Question.TheVariants.{OfGuard, OfOrder, OfStuck}
-use Rattle.ta_moments.specs.Facts.{guards_of, has_guard, is_open}
-use Rattle.ta_moments.specs.Moments.{Known, known}
-use Rattle.ta_moments.specs.Refutes.{Asking, answers, are_pairs}
-use Rattle.ta_moments.specs.Searched.{Maker, answers_if_open, candidate_of, exists_as, moment_search, question_in}
 
 -- what a node asks is a question, or nothing
 pub asked_is : (a : Automaton) (p : Pattern) (asking : Asking) (maker : Maker) (start : ℕ) (past : List Fact) (asks : Ask)

@@ -1,39 +1,26 @@
 -- the node without facts: its first rows, and its vectors
-use Rattle.ta_moment_tree.proofs.Common.{◌≡◌, ◌∙◌, inl, inr, ℕ, ℤ, pos, ◌+◌, ◌*◌, ◌<◌, ◌≤◌, List, [], ◌∷◌, ◌++◌, map, filter, length, slice_get}
-use Rattle.ta_moment_tree.proofs.Common.{Some, None, Option, Bool, not, arith, ints, sym, ap, subst, refl, range_with_len}
-use Rattle.ta_moment_tree.proofs.Common.{AllByRecursion, In, AreRowsOf, IsRowOf, Automaton, Pattern, Row, LinearRow}
-use Rattle.ta_moment_tree.proofs.Common.{numbers_rise, rises_filter}
+use Rattle.ta_moment_tree.proofs.Common.{◌≡◌, ◌∙◌, inl, inr, ℕ, ℤ, pos, ◌+◌, ◌*◌, ◌<◌, ◌≤◌, List, [], ◌∷◌, ◌++◌, map, filter, length, slice_get, Some, None}
+use Rattle.ta_moment_tree.proofs.Common.{Option, Bool, not, arith, ints, sym, ap, subst, refl, range_with_len, AllByRecursion, In, AreRowsOf, IsRowOf}
+use Rattle.ta_moment_tree.proofs.Common.{Automaton, Pattern, Row, LinearRow, numbers_rise, rises_filter, Meaning, mul-le-mul, flat_map, filter_shorter}
+use Rattle.ta_moment_tree.proofs.Common.{plus_form, vector_more, after_vector, before_vector, first_vector, guard_at, place_form, quiet_at, loud_terms}
+use Rattle.ta_moment_tree.proofs.Common.{length-map, length-range_with_len, Point, rows_of_event, rows_of_after, rows_of_end, start_few, Rises, has_guard}
+use Rattle.ta_moment_tree.proofs.Common.{is_moving, moving_rules, needing, sparing, UnknownForm, form_of_row, number_form, unknown_form, minus_form, Vector}
+use Rattle.ta_moment_tree.proofs.Common.{end_vector, event_vector, nothing_fired, rows_at_start, unknowns_at_first, candidates, VectorSpeaks, speak_fresh}
+use Rattle.ta_moment_tree.proofs.Common.{speak_number, event_less, eqb_tells, Moment, moment_of, moments_of, SmallBy, SmallVector, form_of, forms_of, vector_of}
 use Rattle.ta_encode.specs.System.{open_rows}
 use Rattle.ta_encode.specs.Unknowns.{start_meanings}
-use Rattle.ta_moment_tree.proofs.Common.{Meaning}
 use Rattle.ta_moment_tree.specs.Plan.{IsPlan}
 use Rattle.ta_moment_tree.specs.declared.plan.Plan.{Plan}
-use Rattle.std.proofs.Common.{mul-le-mul}
-use Rattle.std.specs.Prelude.{flat_map}
-use Rattle.ta_moment_tree.proofs.Common.{filter_shorter}
-use Rattle.ta_moments.specs.Forms.{plus_form, terms_form}
-use Rattle.ta_moments.proofs.Speaking.{speak_minus, speak_plus, vector_more}
-use Rattle.ta_moments.specs.Moments.{after_vector, before_vector, step_vector, first_vector, guard_at, place_form, quiet_at}
-use Rattle.ta_rest.specs.Quiet.{loud_terms}
-use Rattle.ta_moment_tree.proofs.Common.{length-map, length-range_with_len}
-use Rattle.ta_moments.specs.Moments.{Point, rows_of_event, rows_of_after, rows_of_end}
+use Rattle.ta_moments.specs.Forms.{terms_form}
+use Rattle.ta_moments.proofs.Speaking.{speak_minus, speak_plus}
+use Rattle.ta_moments.specs.Moments.{step_vector}
 unfoldable use Rattle.ta_moments.specs.Moments.{known}
 unfoldable use Rattle.ta_encode.specs.Unknowns.{meanings}
-use Rattle.ta_encode.proofs.Drafts.{start_few}
 use Rattle.ta_moment_tree.proofs.Starts.{moving_few}
-use Rattle.ta_base.specs.Lists.{Rises}
 use Rattle.ta_base.proofs.Ranges.{each_below}
-use Rattle.ta_moments.specs.Facts.{has_guard, is_moving, moving_rules, needing, sparing}
-use Rattle.ta_moments.specs.Forms.{UnknownForm, form_of_row, number_form, unknown_form, minus_form}
-use Rattle.ta_moments.specs.Moments.{Vector, end_vector, event_vector, nothing_fired, rows_at_start, unknowns_at_first}
 unfoldable use Rattle.ta_moments.specs.Moments.{fresh}
-use Rattle.ta_moments.specs.Facts.{candidates}
-use Rattle.ta_moments.proofs.Speaking.{VectorSpeaks, speak_fresh, speak_number, times_less, event_less}
-use Rattle.std.proofs.lemmas.Bool.Decides.{eqb_tells}
-use Rattle.ta_moments.specs.Moments.{Moment}
+use Rattle.ta_moments.proofs.Speaking.{times_less}
 use Rattle.ta_moment_tree.specs.declared.moment.Moment.{Moment as Kept}
-use Rattle.ta_moment_tree.specs.Moments.{moment_of, moments_of}
-use Rattle.ta_moment_tree.specs.Forms.{SmallBy, SmallVector, form_of, forms_of, vector_of}
 use Rattle.ta_moment_tree.proofs.Forms.{form_same, small_minus, small_plus, small_more, small_number, small_unknown}
 use Rattle.ta_moment_tree.proofs.Lists.{mapped_more}
 

@@ -1,20 +1,11 @@
 -- to what the search of moments comes
-use Rattle.std.proofs.Common.{◌≡◌, ◌∙◌, inl, inr, ℕ, ◌<◌, List, [], ◌∷◌, ◌++◌, reverse, take, drop, Option, arith, sym, ap, subst}
-use Rattle.ta_base.specs.Masks.{In}
-use Rattle.ta_base.proofs.Members.{in_map}
-use Rattle.ta_automaton.specs.declared.automaton.Automaton.{Automaton}
-use Rattle.ta_automaton.specs.declared.pattern.Pattern.{Pattern}
+use Rattle.ta_moment_tree.proofs.Common.{◌≡◌, ◌∙◌, inl, inr, ℕ, ◌<◌, List, [], ◌∷◌, ◌++◌, reverse, take, drop, Option, arith, sym, ap, subst, In, in_map}
+use Rattle.ta_moment_tree.proofs.Common.{Automaton, Pattern, SystemAt, IsSmall, System, Comes, Pending, bounded_rows, Fact, candidates, Asking, root, Maker}
+use Rattle.ta_moment_tree.proofs.Common.{candidate_of, moment_search, pending_of}
 use Rattle.ta_automaton.specs.Patterns.{PatternOver}
-use Rattle.ta_encode.specs.Code.{SystemAt}
 use Rattle.ta_encode.proofs.CodeRows.{rows_count}
-use Rattle.ta_encode.specs.TreeCalls.{IsSmall}
-use Rattle.ta_linear.specs.declared.row.System.{System}
-use Rattle.ta_encode.specs.Search.{BeginsAtWord, Comes, Pending, bounded_rows}
-use Rattle.ta_moments.specs.declared.fact.Fact.{Fact}
-use Rattle.ta_moments.specs.Facts.{candidates}
+use Rattle.ta_encode.specs.Search.{BeginsAtWord}
 use Rattle.ta_moments.specs.Moments.{known}
-use Rattle.ta_moments.specs.Refutes.{Asking, root}
-use Rattle.ta_moments.specs.Searched.{Maker, candidate_of, moment_search, pending_of}
 use Rattle.ta_moment_tree.proofs.ComingFacts.{none_begins, search_small}
 use Rattle.ta_moment_tree.proofs.Systems.{back}
 use Rattle.ta_moment_tree.proofs.Reversed.{reverse_parts}

@@ -1,21 +1,17 @@
 -- the facts of what the search comes to are answers
-use Rattle.ta_moment_tree.proofs.Common.{◌≡◌, inl, inr, ℕ, Bool, true, false, cond, ◌&&◌, nat_lt, List, [], ◌∷◌, map, length, slice_get, Some, None}
-use Rattle.ta_moment_tree.proofs.Common.{arith, refl, sym, ap, subst, and_parts, nat_tests, length-append, length-map, AllByRecursion, In, each_in, in_map}
-use Rattle.ta_moment_tree.proofs.Common.{Automaton, Pattern, Pending, bound_row, ◌∙◌}
+use Rattle.ta_moment_tree.proofs.Common.{◌≡◌, inl, inr, ℕ, Bool, true, false, cond, ◌&&◌, nat_lt, List, [], ◌∷◌, map, length, slice_get, Some, None, arith}
+use Rattle.ta_moment_tree.proofs.Common.{refl, sym, ap, subst, and_parts, nat_tests, length-append, length-map, AllByRecursion, In, each_in, in_map, Automaton}
+use Rattle.ta_moment_tree.proofs.Common.{Pattern, Pending, bound_row, ◌∙◌, Comes, all_or_none, Fact, Never, First, Stands, Last, Before, After, Same, Fails}
+use Rattle.ta_moment_tree.proofs.Common.{Question, OfGuard, OfOrder, OfStuck, candidates, guards_of, is_open, may_be_stuck, question_of, form_of_row, Known}
+use Rattle.ta_moment_tree.proofs.Common.{Asking, Exists, answers, known_at, root, Maker, answers_if_open, candidate_of, exists_as, moment_search, pending_of}
+use Rattle.ta_moment_tree.proofs.Common.{row_of_form, AreAnswers}
 use Rattle.ta_cert.specs.declared.line.Node.{Node as TreeNode}
-use Rattle.ta_cert.specs.declared.line.Node.TheVariants as node
-use Rattle.ta_encode.specs.Search.{Comes, all_or_none, answered}
-use Rattle.ta_moments.specs.declared.fact.Fact.{Fact}
-use Rattle.ta_moments.specs.declared.fact.Fact.TheVariants.{Never, First, Stands, Last, Before, After, Same, Fails}
-use Rattle.ta_moments.specs.declared.fact.Question.{Question}
-use Rattle.ta_moments.specs.declared.fact.Question.TheVariants.{OfGuard, OfOrder, OfStuck}
-use Rattle.ta_moments.specs.Facts.{candidates, guards_of, is_open, may_be_stuck, question_of}
-use Rattle.ta_moments.specs.Forms.{form_of_row}
-use Rattle.ta_moments.specs.Moments.{Known, known}
-use Rattle.ta_moments.specs.Refutes.{Asking, Exists, Node, answers, known_at, root}
-use Rattle.ta_moments.specs.Searched.{Maker, answers_if_open, candidate_of, exists_as, moment_search, pending_of, row_of_form}
-use Rattle.ta_moment_tree.specs.Sizes.{AreAnswers, SearchStaysSmall}
+use Rattle.ta_encode.specs.Search.{answered}
+use Rattle.ta_moments.specs.Moments.{known}
+use Rattle.ta_moments.specs.Refutes.{Node}
+use Rattle.ta_moment_tree.specs.Sizes.{SearchStaysSmall}
 use Rattle.ta_moment_tree.proofs.Sizes.{stay_small}
+use Rattle.ta_cert.specs.declared.line.Node.TheVariants as node
 
 -- a question's answers answer it
 either_all : (q : Question) (b : Bool) (xs ys : List Fact) → AllByRecursion (λ f. question_of f ≡ q) xs → AllByRecursion (λ f. question_of f ≡ q) ys

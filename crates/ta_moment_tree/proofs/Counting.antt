@@ -1,23 +1,13 @@
 -- what facts add
-use Rattle.std.proofs.Common.{◌≡◌, ◌≢◌, ◌∙◌, ℕ, zero, suc, ◌+◌, ◌<◌, ◌≤◌, Bool, true, false, ◌&&◌, List, [], ◌∷◌, ◌++◌, drop, get_or, length, map, reverse}
-use Rattle.std.proofs.Common.{slice_get, take, Option, Some, None, refl, sym, ap, subst, arith, length-append}
-use Rattle.std.specs.List.{range_with_len}
-use Rattle.std.proofs.lemmas.Bool.{false≢true}
-use Rattle.std.proofs.lemmas.List.{append-nil, length-map}
-use Rattle.std.proofs.lemmas.List.FromFn.{length-range_with_len}
-use Rattle.ta_base.proofs.Lists.{reverse_more, slice_get_before, slice_get_right}
-use Rattle.ta_automaton.specs.declared.automaton.Automaton.{Automaton}
-use Rattle.ta_automaton.specs.declared.pattern.Pattern.{Pattern}
-use Rattle.ta_moments.specs.declared.fact.Fact.{Fact}
-use Rattle.ta_moments.specs.declared.fact.Fact.TheVariants.{Never, First, Stands, Last, Before, After, Same, Vacant, Fails}
-use Rattle.ta_moments.specs.Facts.{needing, sparing}
-use Rattle.ta_moments.specs.Moments.{Known, Moment, Point, Vector, at_first, end_vector, event_vector, is_pair, with_fact}
+use Rattle.ta_moment_tree.proofs.Common.{◌≡◌, ◌≢◌, ◌∙◌, ℕ, zero, suc, ◌+◌, ◌<◌, ◌≤◌, Bool, true, false, ◌&&◌, List, [], ◌∷◌, ◌++◌, drop, get_or, length, map}
+use Rattle.ta_moment_tree.proofs.Common.{reverse, slice_get, take, Option, Some, None, refl, sym, ap, subst, arith, length-append, range_with_len, false≢true}
+use Rattle.ta_moment_tree.proofs.Common.{append-nil, length-map, length-range_with_len, reverse_more, slice_get_before, slice_get_right, Automaton, Pattern}
+use Rattle.ta_moment_tree.proofs.Common.{Fact, Never, First, Stands, Last, Before, After, Same, Vacant, Fails, needing, sparing, Known, Moment, Point, Vector}
+use Rattle.ta_moment_tree.proofs.Common.{at_first, end_vector, event_vector, with_fact, are_pairs, nodes_begin, is_plain, is_pair_in}
+use Rattle.ta_moments.specs.Moments.{is_pair}
 unfoldable use Rattle.ta_moments.specs.Moments.{known}
-use Rattle.ta_moments.specs.Refutes.{are_pairs}
-use Rattle.ta_moments.proofs.Speaking.{nodes_begin}
-use Rattle.ta_moment_tree.specs.Draft.{is_plain}
 use Rattle.ta_moment_tree.proofs.Cutting.{moments_front}
-use Rattle.ta_moment_tree.specs.Counts.{is_last, is_pair_in}
+use Rattle.ta_moment_tree.specs.Counts.{is_last}
 use Rattle.ta_moment_tree.proofs.Reversed.{reverse_parts}
 
 -- ---- unknowns
@@ -115,11 +105,6 @@ moment_pushed a p silent c facts i d below new =
 never_both : (x : Bool) → false ≡ (x && false)
 never_both true = refl
 never_both false = refl
-
-pub both_pairs : (one other : Option Moment) → are_pairs one other ≡ (is_pair_in one && is_pair_in other)
-both_pairs (Some x) (Some y) = refl
-both_pairs (Some x) None = never_both (is_pair x)
-both_pairs None y = refl
 
 -- the events' moments aren't
 no_pair : {X : Type 0} (v : X → Vector) (xs : List X) (m : ℕ) → is_pair_in (slice_get (map (λ x. Point (v x)) xs) m) ≡ false

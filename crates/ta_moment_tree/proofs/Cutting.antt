@@ -1,11 +1,8 @@
 -- what is left of a node that is cut
 use Rattle.ta_moment_tree.proofs.Common.{◌≡◌, ◌∙◌, ℕ, List, [], ◌∷◌, ◌++◌, map, length, take, Option, arith, sym, ap, append_assoc, append-nil, take-append-le}
-use Rattle.ta_moment_tree.proofs.Common.{take-length, Automaton, Pattern, IsBehind}
+use Rattle.ta_moment_tree.proofs.Common.{take-length, Automaton, Pattern, IsBehind, Fact, Moment, UnknownForm, nodes_begin}
 use Rattle.std.proofs.lemmas.List.{take-map}
-use Rattle.ta_moments.specs.declared.fact.Fact.{Fact}
-use Rattle.ta_moments.specs.Moments.{Moment, known}
-use Rattle.ta_moments.specs.Forms.{UnknownForm}
-use Rattle.ta_moments.proofs.Speaking.{nodes_begin}
+use Rattle.ta_moments.specs.Moments.{known}
 
 pub front_on : {X : Type 0} (one two three new : List X) → IsBehind one two → three ≡ two ++ new → IsBehind one three
 front_on one two three new h e = record { more = h.more ++ new; is = e ∙ ap (λ xs. xs ++ new) h.is ∙ append_assoc one h.more new }

@@ -1,16 +1,11 @@
 -- what is known at a node fits
 use Rattle.ta_moment_tree.proofs.Common.{◌∙◌, ℕ, ◌∷◌, [], List, Option, range_with_len, length, arith, ap, sym, subst, In, AllByRecursion, Automaton, Pattern}
-use Rattle.ta_moment_tree.proofs.Common.{each_at, each_append, each_map_all}
-use Rattle.ta_moments.specs.Facts.{candidates}
-use Rattle.ta_moments.specs.declared.fact.Fact.{Fact}
-use Rattle.ta_moments.specs.declared.fact.Fact.TheVariants.{Never, First, Stands, Last, Before, After, Same, Vacant, Fails}
-use Rattle.ta_moments.specs.Moments.{Known, Moment, Point, Vector, early, late, end_vector, event_vector, with_fact}
+use Rattle.ta_moment_tree.proofs.Common.{each_at, each_append, each_map_all, candidates, Fact, Never, First, Stands, Last, Before, After, Same, Vacant, Fails}
+use Rattle.ta_moment_tree.proofs.Common.{Known, Moment, Point, Vector, early, late, end_vector, event_vector, with_fact, VectorSpeaks, Added, known_of}
+use Rattle.ta_moment_tree.proofs.Common.{SmallVector, vector_of, MomentsSpeak, SmallMoments, Draft, IsDraft}
 unfoldable use Rattle.ta_moments.specs.Moments.{known}
-use Rattle.ta_moments.proofs.Speaking.{Spoken, VectorSpeaks, spoken}
-use Rattle.ta_moment_tree.specs.Draft.{Added, DraftFits, IsDraft, known_of}
-use Rattle.ta_moment_tree.specs.Forms.{SmallVector, vector_of}
-use Rattle.ta_moment_tree.specs.Moments.{MomentsSpeak, SmallMoments}
-use Rattle.ta_moment_tree.specs.declared.draft.Draft.{Draft}
+use Rattle.ta_moments.proofs.Speaking.{Spoken, spoken}
+use Rattle.ta_moment_tree.specs.Draft.{DraftFits}
 use Rattle.ta_moment_tree.proofs.Beginning.{after_small, before_small, end_small, event_small, first_small, vector_more_small}
 
 abbrev Small : Moment → Type 0

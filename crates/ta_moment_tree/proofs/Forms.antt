@@ -1,64 +1,15 @@
 -- forms of the code are those of the definitions, and small ones stay in range
-use Rattle.std.proofs.Common.{
-  mul-le-mul,
-  to_z,
-  of_z,
-  get_or,
-  length,
-  subst,
-  zero,
-  suc,
-  ◌++◌,
-  ◌≢◌,
-  cond,
-  eqb,
-  ◌≡◌,
-  ◌∙◌,
-  ℕ,
-  ℤ,
-  pos,
-  negsuc,
-  ◌+◌,
-  ◌*◌,
-  ◌<◌,
-  ◌≤◌,
-  ◌^◌,
-  ◌+ℤ◌,
-  ◌-ℤ◌,
-  ◌*ℤ◌,
-  unsigned_abs,
-  Bool,
-  true,
-  false,
-  List,
-  [],
-  ◌∷◌,
-  inl,
-  inr,
-  refl,
-  sym,
-  ap,
-  arith,
-}
-use Rattle.std.specs.Prelude.{◌||◌, ◌==◌, if◌then◌else◌, not, IfOk, Result, Ok, Err}
-use Rattle.std.proofs.lemmas.Int.{ints, unsigned_abs-mul}
-use Rattle.std.proofs.Math.IntN.{*ℤ-zero}
-use Rattle.ta_linear.proofs.TermLemmas.{coefficient-append}
-use Rattle.std.proofs.lemmas.Bool.{eq-eqb, true≢false, false≢true, or_cases}
+use Rattle.ta_moment_tree.proofs.Common.{mul-le-mul, to_z, of_z, get_or, length, subst, zero, suc, ◌++◌, ◌≢◌, cond, eqb, ◌≡◌, ◌∙◌, ℕ, ℤ, pos, negsuc, ◌+◌, ◌*◌}
+use Rattle.ta_moment_tree.proofs.Common.{◌<◌, ◌≤◌, ◌^◌, ◌+ℤ◌, ◌-ℤ◌, ◌*ℤ◌, unsigned_abs, Bool, true, false, List, [], ◌∷◌, inl, inr, refl, sym, ap, arith, ◌||◌}
+use Rattle.ta_moment_tree.proofs.Common.{◌==◌, if◌then◌else◌, not, Err, ints, *ℤ-zero, coefficient-append, eq-eqb, true≢false, false≢true, or_cases, nat_tests}
+use Rattle.ta_moment_tree.proofs.Common.{w128, abs_minus, abs_sum, to_z_abs, all_below-from, any_below-at, any_below, InRange, coefficient, IsNormal}
+use Rattle.ta_moment_tree.proofs.Common.{IsMultiple, MultipleOutOfRange, Form, UnknownForm, number_form, unknown_form, plus_form, times_form, minus_form}
+use Rattle.ta_moment_tree.proofs.Common.{below_zero, Speaks, SmallBy, form_of, has_negative}
+use Rattle.std.specs.Prelude.{IfOk, Result, Ok}
+use Rattle.std.proofs.lemmas.Int.{unsigned_abs-mul}
 use Rattle.std.proofs.Math.Nat.{lt_of_not-le}
 use Rattle.ta_linear.proofs.NormalTerms.{coefficient-first, coefficient-other}
-use Rattle.std.proofs.lemmas.Bool.Decides.{nat_tests}
-use Rattle.std.specs.Int.{w128}
-use Rattle.ta_base.proofs.Integers.{abs_minus, abs_sum, to_z_abs}
-use Rattle.ta_base.proofs.Bits.{all_below-from, any_below-at}
-use Rattle.ta_base.specs.Masks.{any_below}
-use Rattle.ta_linear.specs.Numbers.{InRange}
-use Rattle.ta_linear.specs.Terms.{coefficient, IsNormal}
-use Rattle.ta_linear.specs.Forms.{IsSum, IsMultiple, SumOutOfRange, MultipleOutOfRange}
-use Rattle.ta_linear.specs.declared.form.Form.{Form}
-use Rattle.ta_moments.specs.Forms.{UnknownForm, number_form, unknown_form, plus_form, times_form, minus_form, below_zero}
-use Rattle.ta_moments.specs.Laws.{Speaks}
-use Rattle.ta_moment_tree.specs.Forms.{SmallBy, form_of, has_negative}
+use Rattle.ta_linear.specs.Forms.{IsSum, SumOutOfRange}
 
 -- forms with the same numbers are the same
 pub form_same : (f g : UnknownForm) → f.constant ≡ g.constant → ((u : ℕ) → f.coefficient u ≡ g.coefficient u) → f ≡ g
@@ -134,10 +85,6 @@ pub small_unknown : (x : ℕ) → SmallBy 1 (unknown_form x)
 small_unknown x = record { constant = omega (arith, ints); coefficients = one_small x }
 
 -- ---- whether a number of a form is negative
-negative_or_not : (z : ℤ) → (below_zero z ≡ true → ⊥) → below_zero z ≡ false
-negative_or_not (pos n) h = refl
-negative_or_not (negsuc n) h = absurd (h refl)
-
 not_negative_sum : (y z : ℤ) → below_zero y ≡ false → below_zero z ≡ false → below_zero (y +ℤ z) ≡ false
 not_negative_sum (pos m) (pos n) h k = refl
 not_negative_sum (pos m) (negsuc n) h k = absurd (true≢false k)

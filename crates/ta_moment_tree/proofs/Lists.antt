@@ -1,19 +1,8 @@
 -- what code reads from lists, and numbers that pass
-use Rattle.std.proofs.Common.{◌≡◌, ◌∙◌, ℕ, ◌+◌, ◌<◌, ◌≤◌, Bool, true, false, cond, List, [], ◌∷◌, ◌++◌, get_or, length, map, slice_get, take, Option, Some}
-use Rattle.std.proofs.Common.{None, refl, sym, ap, arith}
-use Rattle.std.specs.Prelude.{filter, flat_map}
-use Rattle.std.specs.List.{range_with_len}
-use Rattle.std.proofs.lemmas.List.{append-nil, map-append, take_more}
-use Rattle.std.proofs.lemmas.Grind.{flat_map-append}
-use Rattle.std.proofs.lemmas.List.Elements.{filter-append}
-use Rattle.std.proofs.lemmas.Option.{slice_get_read, slice_get_past}
-use Rattle.std.specs.Option.{IfSome, MatchOption}
-use Rattle.std.specs.Prelude.{option_copied}
-use Rattle.std.specs.List.{HoldsAt}
-use denote.Bor.{Bor}
-use Rattle.std.proofs.lemmas.Bool.Decides.{nat_tests}
-use Rattle.std.specs.Prelude.{nat_lt}
-use Rattle.ta_base.proofs.Ranges.{filter_more, numbers_more}
+use Rattle.ta_moment_tree.proofs.Common.{◌≡◌, ◌∙◌, ℕ, ◌+◌, ◌<◌, ◌≤◌, Bool, true, false, cond, List, [], ◌∷◌, ◌++◌, get_or, length, map, slice_get, take, Option}
+use Rattle.ta_moment_tree.proofs.Common.{Some, None, refl, sym, ap, arith, filter, flat_map, range_with_len, append-nil, map-append, take_more, flat_map-append}
+use Rattle.ta_moment_tree.proofs.Common.{filter-append, slice_get_read, slice_get_past, IfSome, MatchOption, option_copied, HoldsAt, Bor, nat_tests, nat_lt}
+use Rattle.ta_moment_tree.proofs.Common.{filter_more, numbers_more}
 
 -- one more number, which passes or not
 pub filter_kept : (test : ℕ → Bool) (n : ℕ) → test n ≡ true → filter test (range_with_len 0 n) ++ n ∷ [] ≡ filter test (range_with_len 0 (n + 1))

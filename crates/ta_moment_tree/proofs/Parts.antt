@@ -1,31 +1,12 @@
 -- nodes that are written on
-use Rattle.std.proofs.Common.{◌≡◌, ◌∙◌, ℕ, zero, suc, ◌+◌, ◌<◌, ◌≤◌, List, [], ◌∷◌, ◌++◌, drop, get_or, length, reverse, slice_get, take, Option, Some, refl}
-use Rattle.std.proofs.Common.{sym, ap, subst, arith, inl, inr, length-append}
-use Rattle.std.proofs.lemmas.List.{length-map, length-take-le, take-append-drop, take-append-le, take-take}
-use Rattle.std.proofs.lemmas.Option.{same_Some, slice_get_within}
-use Rattle.ta_base.proofs.Lists.{fewer_alike, get_parts, reverse_more, slice_get_left}
-use Rattle.ta_automaton.specs.declared.automaton.Automaton.{Automaton}
-use Rattle.ta_automaton.specs.declared.pattern.Pattern.{Pattern}
-use Rattle.ta_encode.specs.Inside.Lines.{IsBehind}
-use Rattle.ta_encode.specs.Marks.{SameRows}
-use Rattle.ta_encode.specs.Code.{SystemAt}
-use Rattle.ta_encode.specs.declared.meaning.Bound.{Bound}
-use Rattle.ta_linear.specs.declared.row.Row.{Row}
-use Rattle.ta_linear.specs.declared.row.System.{System}
-use Rattle.ta_moments.specs.Refutes.{Asking}
-use Rattle.ta_moments.specs.Searched.{Maker, candidate_of, moment_search, start_of}
-use Rattle.std.proofs.Math.Seq.{take-length}
-use Rattle.ta_moments.specs.declared.fact.Fact.{Fact}
-use Rattle.ta_moments.specs.Moments.{Known, known}
-use Rattle.ta_moment_tree.specs.Cuts.{IsMark}
-use Rattle.ta_moment_tree.specs.Forms.{form_of}
-use Rattle.ta_moment_tree.specs.Draft.{known_of}
-use Rattle.ta_moment_tree.specs.Nodes.{IsNode}
-use Rattle.ta_automaton.specs.declared.task.Task.{Task}
-use Rattle.ta_moment_tree.specs.declared.encoding.MomentEncoding.{MomentEncoding}
-use Rattle.ta_moment_tree.specs.declared.mark.NodeMark.{NodeMark}
+use Rattle.ta_moment_tree.proofs.Common.{◌≡◌, ◌∙◌, ℕ, zero, suc, ◌+◌, ◌<◌, ◌≤◌, List, [], ◌∷◌, ◌++◌, drop, get_or, length, reverse, slice_get, take, Option}
+use Rattle.ta_moment_tree.proofs.Common.{Some, refl, sym, ap, subst, arith, inl, inr, length-append, length-map, length-take-le, take-append-drop}
+use Rattle.ta_moment_tree.proofs.Common.{take-append-le, take-take, same_Some, slice_get_within, fewer_alike, get_parts, reverse_more, slice_get_left}
+use Rattle.ta_moment_tree.proofs.Common.{Automaton, Pattern, IsBehind, SameRows, SystemAt, Bound, Row, System, Asking, Maker, candidate_of, moment_search}
+use Rattle.ta_moment_tree.proofs.Common.{start_of, take-length, Fact, Known, IsMark, form_of, known_of, IsNode, Task, MomentEncoding, NodeMark, NodeIs}
+use Rattle.ta_moment_tree.proofs.Common.{AreMarks}
+use Rattle.ta_moments.specs.Moments.{known}
 use Rattle.ta_moment_tree.proofs.Cutting.{rows_front}
-use Rattle.ta_moment_tree.specs.Kept.{AreMarks, NodeIs}
 use Rattle.ta_moment_tree.proofs.Reversed.{reverse_parts}
 
 -- ---- marks
@@ -162,14 +143,6 @@ same_cut before rows cut same behind fits is = record {
   within = omega (arith, ap length is, length-take-le same rows fits);
   rows_are = ap (take same) behind.is ∙ take-append-le same rows behind.more fits ∙ sym (ap (take same) is ∙ take-take same same rows (omega arith));
 }
-
--- the rows that stay are the first ones of both
-pub begins_self : (same : ℕ) (rows : List Row) → IsBehind (take same rows) rows
-begins_self same rows = record { more = drop same rows; is = sym (take-append-drop same rows) }
-
-pub begins_before : (before rows : List Row) (same : ℕ) → SameRows before same rows → IsBehind (take same rows) before
-begins_before before rows same stay = record
-    { more = drop same before; is = sym (take-append-drop same before) ∙ ap (λ (rs : List Row). rs ++ drop same before) stay.rows_are }
 
 pub same_end : (before rows system : List Row) (same : ℕ) → SameRows before same rows → SameRows before (length (take same rows)) system
     → SameRows before same system

@@ -1,9 +1,7 @@
 -- what the question of a node may be of
-use Rattle.ta_moment_tree.proofs.Common.{◌≡◌, arith}
+use Rattle.ta_moment_tree.proofs.Common.{◌≡◌, arith, SmallVector, vector_of, MomentEncoding}
 use Rattle.ta_moments.specs.Questions.{Parts}
-use Rattle.ta_moment_tree.specs.Forms.{SmallVector, vector_of}
 use Rattle.ta_moment_tree.specs.Nodes.{IsAnyNode}
-use Rattle.ta_moment_tree.specs.declared.encoding.MomentEncoding.{MomentEncoding}
 use Rattle.ta_moment_tree.proofs.Beginning.{vector_more_small}
 use Rattle.ta_moment_tree.proofs.Fitting.{draft_fits}
 

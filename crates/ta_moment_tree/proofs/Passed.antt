@@ -1,10 +1,6 @@
 -- numbers that pass a test
-use Rattle.std.proofs.Common.{◌≡◌, ◌≢◌, ◌∙◌, ℕ, zero, suc, ◌+◌, ◌-◌, ◌<◌, Bool, true, false, ◌&&◌, cond, List, [], ◌∷◌, length, slice_get, Some, refl, sym, ap}
-use Rattle.std.proofs.Common.{subst, arith}
-use Rattle.std.specs.Prelude.{filter}
-use Rattle.std.specs.List.{range_with_len}
-use Rattle.ta_base.proofs.Lists.{slice_get_left, slice_get_right}
-use Rattle.ta_base.proofs.Ranges.{filter_more}
+use Rattle.ta_moment_tree.proofs.Common.{◌≡◌, ◌≢◌, ◌∙◌, ℕ, zero, suc, ◌+◌, ◌-◌, ◌<◌, Bool, true, false, ◌&&◌, cond, List, [], ◌∷◌, length, slice_get, Some}
+use Rattle.ta_moment_tree.proofs.Common.{refl, sym, ap, subst, arith, filter, range_with_len, slice_get_left, slice_get_right, filter_more}
 use Rattle.ta_moment_tree.proofs.Lists.{filter_kept}
 
 -- of the numbers below one of which the last passes, the one that comes behind those that pass below it

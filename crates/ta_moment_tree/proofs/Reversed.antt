@@ -1,10 +1,7 @@
 -- facts in the order in which they were added, and the newest first
-use Rattle.std.proofs.Common.{◌≡◌, ◌∙◌, ℕ, Bool, true, false, ◌&&◌, not, List, [], ◌∷◌, ◌++◌, drop, reverse, take, refl, sym, ap}
+use Rattle.ta_moment_tree.proofs.Common.{◌≡◌, ◌∙◌, ℕ, Bool, true, false, ◌&&◌, not, List, [], ◌∷◌, ◌++◌, drop, reverse, take, refl, sym, ap, reverse-append}
+use Rattle.ta_moment_tree.proofs.Common.{take-append-drop, Fact, Question, is_open, question_of, same_question}
 use Rattle.std.proofs.lemmas.Grind.{reverse_onto}
-use Rattle.std.proofs.lemmas.List.{reverse-append, take-append-drop}
-use Rattle.ta_moments.specs.declared.fact.Fact.{Fact}
-use Rattle.ta_moments.specs.declared.fact.Question.{Question}
-use Rattle.ta_moments.specs.Facts.{is_open, question_of, same_question}
 
 and_three : (x y z : Bool) → (x && (y && z)) ≡ ((x && y) && z)
 and_three true y z = refl

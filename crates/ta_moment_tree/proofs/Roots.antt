@@ -1,19 +1,10 @@
 -- the starts with which the search of moments begins
-use Rattle.std.proofs.Common.{◌≡◌, ◌≢◌, inl, inr, ◌∙◌, ℕ, ◌+◌, ◌<◌, ◌≤◌, ◌^◌, List, [], ◌∷◌, cond, length, map, not, slice_get, Option, Some, None, refl, sym}
-use Rattle.std.proofs.Common.{ap, subst, arith, lit<}
-use Rattle.std.specs.Prelude.{filter}
-use Rattle.std.specs.List.{range_with_len}
-use Rattle.std.proofs.lemmas.Bool.{cases_eq, eq-eqb, ne_eqb}
-use Rattle.std.specs.Option.{option_map}
-use Rattle.std.proofs.lemmas.List.{length-map}
-use Rattle.std.proofs.lemmas.Option.{slice_get-map, slice_get_within}
-use Rattle.ta_base.proofs.Ranges.{count_few, numbers_rise, rises_filter, rises_within}
-use Rattle.ta_automaton.specs.declared.automaton.Automaton.{Automaton}
-use Rattle.ta_automaton.specs.declared.pattern.Pattern.{Pattern}
+use Rattle.ta_moment_tree.proofs.Common.{◌≡◌, ◌≢◌, inl, inr, ◌∙◌, ℕ, ◌+◌, ◌<◌, ◌≤◌, ◌^◌, List, [], ◌∷◌, cond, length, map, not, slice_get, Option, Some, None}
+use Rattle.ta_moment_tree.proofs.Common.{refl, sym, ap, subst, arith, lit<, filter, range_with_len, cases_eq, eq-eqb, ne_eqb, option_map, length-map}
+use Rattle.ta_moment_tree.proofs.Common.{slice_get-map, slice_get_within, count_few, numbers_rise, rises_filter, Automaton, Pattern, candidates, has_later}
+use Rattle.ta_moment_tree.proofs.Common.{Asking, root, Maker, moment_search, pending_of, start_of}
+use Rattle.ta_base.proofs.Ranges.{rises_within}
 use Rattle.ta_encode.specs.TreeCalls.{IsRoot}
-use Rattle.ta_moments.specs.Facts.{candidates, has_later}
-use Rattle.ta_moments.specs.Refutes.{Asking, root}
-use Rattle.ta_moments.specs.Searched.{Maker, moment_search, pending_of, start_of}
 
 -- the candidates: none, or those events that are the last
 abbrev pub last_events : Pattern → List ℕ

@@ -3,26 +3,20 @@ use Rattle.ta_moment_tree.proofs.Common.{◌≡◌, ◌∙◌, inl, inr, ℕ, su
 use Rattle.ta_moment_tree.proofs.Common.{length, slice_get, Option, Some, None, arith, refl, sym, ap, and_parts, cases_lt, false≢true, nat_tests}
 use Rattle.ta_moment_tree.proofs.Common.{slice_get_past, length-append, length-map, length-range_with_len, range_with_len, AllByRecursion, In, has_bit}
 use Rattle.ta_moment_tree.proofs.Common.{in_numbers, Automaton, Pattern, Comparison, Row, Rule, condition_rows, form_row, location_place, opposite}
-use Rattle.ta_moment_tree.proofs.Common.{processes_row}
+use Rattle.ta_moment_tree.proofs.Common.{processes_row, bound_row, Fact, Never, First, Stands, Last, Before, After, Same, Vacant, Fails, Question, OfGuard}
+use Rattle.ta_moment_tree.proofs.Common.{OfOrder, OfStuck, comes_after, has_guard, is_open, may_be_stuck, moving_rules, needing, question_of, same_question}
+use Rattle.ta_moment_tree.proofs.Common.{sparing, UnknownForm, form_of_row, may_be_negative, minus_form, negated_form, opposite_form, Known, Moment, Pair}
+use Rattle.ta_moment_tree.proofs.Common.{Point, Vector, after_vector, at_first, before_vector, below, counters_at, early, end_vector, event_at, event_vector}
+use Rattle.ta_moment_tree.proofs.Common.{first_vector, guard_at, guards, is_beside, late, place_form, quiet_at, rows_at_start, rows_of_after, rows_of_end}
+use Rattle.ta_moment_tree.proofs.Common.{rows_of_event, rows_of_first, rows_of_last, rows_of_order, rows_of_same, source_at, unknowns_at_first, with_fact}
+use Rattle.ta_moment_tree.proofs.Common.{with_more, Asking, Exists, known_at, AreAnswers, Event}
 use Rattle.std.proofs.lemmas.List.Sums.{count_by-le-length, length-filter}
 use Rattle.ta_base.specs.Lists.{Distinct}
 use Rattle.ta_base.proofs.Each.{distinct_length}
-use Rattle.ta_automaton.specs.declared.pattern.Event.{Event}
-use Rattle.ta_encode.specs.System.{bound_row}
 use Rattle.ta_encode.specs.Unknowns.{start_meanings}
-use Rattle.ta_moments.specs.declared.fact.Fact.{Fact}
-use Rattle.ta_moments.specs.declared.fact.Fact.TheVariants.{Never, First, Stands, Last, Before, After, Same, Vacant, Fails}
-use Rattle.ta_moments.specs.declared.fact.Question.{Question}
-use Rattle.ta_moments.specs.declared.fact.Question.TheVariants.{OfGuard, OfOrder, OfStuck}
-use Rattle.ta_moments.specs.Facts.{comes_after, has_guard, is_open, may_be_stuck, moving_rules, needing, question_of, same_question, sparing}
-use Rattle.ta_moments.specs.Forms.{UnknownForm, form_of_row, may_be_negative, minus_form, negated_form, opposite_form}
-use Rattle.ta_moments.specs.Moments.{Known, Moment, Pair, Point, Vector, after_vector, at_first, before_vector, below, counters_at, early, end_vector, event_at}
-use Rattle.ta_moments.specs.Moments.{event_vector, first_vector, guard_at, guards, is_beside, late, place_form, quiet_at, rows_at_start, rows_of_after}
-use Rattle.ta_moments.specs.Moments.{rows_of_end, rows_of_event, rows_of_first, rows_of_last, rows_of_order, rows_of_same, source_at, steps_less_one}
-use Rattle.ta_moments.specs.Moments.{unknowns_at_first, with_fact, with_more}
+use Rattle.ta_moments.specs.Moments.{steps_less_one}
 unfoldable use Rattle.ta_moments.specs.Moments.{known}
-use Rattle.ta_moments.specs.Refutes.{Asking, Exists, known_at}
-use Rattle.ta_moment_tree.specs.Sizes.{AreAnswers, NodesStaySmall}
+use Rattle.ta_moment_tree.specs.Sizes.{NodesStaySmall}
 use Rattle.ta_moment_tree.proofs.Beginning.{count_room}
 use Rattle.ta_moment_tree.proofs.Starts.{moving_few}
 

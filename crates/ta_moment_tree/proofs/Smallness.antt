@@ -1,9 +1,6 @@
 -- what is written of a guard has few terms and small numbers
-use Rattle.ta_moment_tree.proofs.Common.{ℕ, ℤ, ◌≤◌, List, [], ◌∷◌, length, arith, AllByRecursion, Row, Automaton, SmallForm}
-use Rattle.ta_moment_tree.proofs.Common.{◌≡◌, ◌++◌, slice_get, Some, each_at, each_append}
-use Rattle.ta_moment_tree.proofs.Common.{Bool, not, filter, cond_both, SmallTerms}
-use Rattle.ta_moments.specs.Moments.{guards}
-use Rattle.ta_rest.specs.Quiet.{is_silent, loud_terms}
+use Rattle.ta_moment_tree.proofs.Common.{ℕ, ℤ, ◌≤◌, List, [], ◌∷◌, length, arith, AllByRecursion, Row, Automaton, SmallForm, ◌≡◌, ◌++◌, slice_get, Some}
+use Rattle.ta_moment_tree.proofs.Common.{each_at, each_append, Bool, not, filter, cond_both, SmallTerms, guards, is_silent, loud_terms}
 use Rattle.ta_encode.proofs.Smallness.{rise_rows_small, fall_rows_small}
 
 -- the row of a guard

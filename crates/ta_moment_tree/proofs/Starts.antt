@@ -1,18 +1,10 @@
 -- the unknowns at the start
 use Rattle.ta_moment_tree.proofs.Common.{◌≡◌, inl, inr, ℕ, ℤ, pos, ◌≤◌, map, length, unsigned_abs, arith, sym, subst, get_or, range_with_len, cases_lt}
 use Rattle.ta_moment_tree.proofs.Common.{get_or-map, get_past, slice_get-get_or, ints, Automaton, Pattern, Meaning, Parameter, Start, start_locations}
-use Rattle.ta_moment_tree.proofs.Common.{place_coefficient, location_place, one_if}
+use Rattle.ta_moment_tree.proofs.Common.{place_coefficient, location_place, one_if, nat_tests, In, in_append, in_map, ◌⊎◌, count_few, slice_get, is_moving}
+use Rattle.ta_moment_tree.proofs.Common.{moving_rules, start_form, SmallBy}
 unfoldable use Rattle.ta_encode.specs.Unknowns.{start_meanings}
-use Rattle.std.proofs.lemmas.Bool.Decides.{nat_tests}
 use Rattle.ta_base.proofs.Members.{in_at}
-use Rattle.ta_base.specs.Masks.{In}
-use Rattle.ta_base.proofs.Members.{in_append, in_map}
-use Rattle.ta_moment_tree.proofs.Common.{◌⊎◌}
-use Rattle.ta_base.proofs.Ranges.{count_few}
-use Rattle.ta_moment_tree.proofs.Common.{slice_get}
-use Rattle.ta_moments.specs.Facts.{is_moving, moving_rules}
-use Rattle.ta_moments.specs.Moments.{start_form}
-use Rattle.ta_moment_tree.specs.Forms.{SmallBy}
 
 -- an unknown at the start is a parameter or a start count
 in_start : (a : Automaton) (p : Pattern) (m : Meaning) → In m (start_meanings a p) → ((i : ℕ) × (m ≡ Parameter i)) ⊎ ((l : ℕ) × (m ≡ Start l))

@@ -1,13 +1,7 @@
 -- sums of forms, term by term
-use Rattle.std.proofs.Common.{◌≡◌, ◌∙◌, ℕ, ℤ, pos, ◌+◌, ◌<◌, ◌≤◌, ◌+ℤ◌, List, drop, get_or, length, sym, ap, arith, unsigned_abs}
-use Rattle.std.proofs.lemmas.Int.{ints}
-use Rattle.std.proofs.lemmas.List.{drop_more}
-use Rattle.std.proofs.Math.ListN.{drop_of_length-le}
-use Rattle.std.proofs.Math.IntN.{*ℤ-zero, zero-*ℤ}
-use Rattle.ta_moments.specs.Forms.{UnknownForm, number_form, plus_form, times_form}
+use Rattle.ta_moment_tree.proofs.Common.{◌≡◌, ◌∙◌, ℕ, ℤ, pos, ◌+◌, ◌<◌, ◌≤◌, ◌+ℤ◌, List, drop, get_or, length, sym, ap, arith, unsigned_abs, ints, drop_more}
+use Rattle.ta_moment_tree.proofs.Common.{drop_of_length-le, *ℤ-zero, zero-*ℤ, UnknownForm, number_form, plus_form, times_form, AllByRecursion, each_get_or}
 unfoldable use Rattle.ta_moments.specs.Forms.{sum_form, terms_form}
-use Rattle.std.specs.List.{AllByRecursion}
-use Rattle.ta_base.proofs.Each.{each_get_or}
 use Rattle.ta_moment_tree.proofs.Forms.{form_same}
 
 sum_assoc : (x y z : ℤ) → (x +ℤ y) +ℤ z ≡ x +ℤ (y +ℤ z)
@@ -25,9 +19,6 @@ plus_none f = form_same (plus_form f (number_form (pos 0))) f (sum_none f.consta
 
 pub times_none : (f : UnknownForm) → times_form (pos 0) f ≡ number_form (pos 0)
 times_none f = form_same (times_form (pos 0) f) (number_form (pos 0)) (zero-*ℤ f.constant) (λ u. zero-*ℤ (f.coefficient u))
-
-pub none_times : (k : ℤ) → times_form k (number_form (pos 0)) ≡ number_form (pos 0)
-none_times k = form_same (times_form k (number_form (pos 0))) (number_form (pos 0)) (*ℤ-zero k) (λ u. *ℤ-zero k)
 
 -- a sum so far, and the sum of what is left
 pub sum_more : {X : Type 0} (g : X → UnknownForm) (xs : List X) (i : ℕ) (d : X) (total next all : UnknownForm) → i < length xs

@@ -2,21 +2,16 @@
 use Rattle.ta_moment_tree.proofs.Common.{◌≡◌, ◌∙◌, inl, inr, ℕ, zero, suc, ℤ, pos, negsuc, ◌≢◌, ◌+◌, ◌^◌, List, [], ◌∷◌, ◌++◌, get_or, length, map, Option}
 use Rattle.ta_moment_tree.proofs.Common.{Some, None, arith, ints, refl, sym, ap, subst, cases_eq, cases_lt, cond_apart, cond_same, AllByRecursion}
 use Rattle.ta_moment_tree.proofs.Common.{range_with_len, at_number, length-map, length-range_with_len, AllBelow, AreRowsOf, Row, BoundsWithin, bound_constant}
-use Rattle.ta_moment_tree.proofs.Common.{bound_row, bound_sense, coefficient, coefficient_in_sense}
+use Rattle.ta_moment_tree.proofs.Common.{bound_row, bound_sense, coefficient, coefficient_in_sense, Bound, only_at, side_row, UnknownForm, Speaks, candidate_of}
+use Rattle.ta_moment_tree.proofs.Common.{row_of_form, start_of, forms_of, bound_forms}
 use Rattle.std.proofs.lemmas.List.{get_or_past}
 use Rattle.ta_encode.specs.declared.meaning.Side.{Side}
 use Rattle.ta_encode.specs.declared.meaning.Side.TheVariants.{Low, High}
 use Rattle.ta_base.specs.Lists.{Pairwise}
 use Rattle.ta_linear.proofs.NormalTerms.{normal_narrow}
-use Rattle.ta_encode.specs.declared.meaning.Bound.{Bound}
-use Rattle.ta_encode.specs.System.{only_at, side_row}
 use Rattle.ta_moments.specs.Code.{IsRowOfForm}
-use Rattle.ta_moments.specs.Forms.{UnknownForm}
-use Rattle.ta_moments.specs.Laws.{Speaks}
-use Rattle.ta_moments.specs.Searched.{candidate_of, row_of_form, start_of}
 use Rattle.ta_moments.proofs.Speaking.{rows_append}
-use Rattle.ta_moment_tree.specs.Forms.{forms_of}
-use Rattle.ta_moment_tree.specs.Systems.{FloorsWithin, bound_forms}
+use Rattle.ta_moment_tree.specs.Systems.{FloorsWithin}
 
 -- ---- bounds
 only_here : (x : ℕ) (z : ℤ) → get_or (only_at x z) x (pos 0) ≡ z

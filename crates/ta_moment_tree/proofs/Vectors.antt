@@ -1,22 +1,12 @@
 -- vectors of the code
 use Rattle.ta_moment_tree.proofs.Common.{◌≡◌, ◌≢◌, ◌∙◌, inl, inr, ℕ, pos, ◌+◌, ◌<◌, ◌≤◌, List, [], ◌∷◌, ◌++◌, length, get_or, drop, slice_get, Some, None}
-use Rattle.ta_moment_tree.proofs.Common.{Option, arith, sym, ap, refl, cond_same, cond_apart, slice_get_past, AllByRecursion}
-use Rattle.std.proofs.lemmas.List.{drop_more}
-use Rattle.std.specs.Option.{IfSome, MatchOption, option_map}
-use Rattle.std.specs.Prelude.{option_copied}
-use Rattle.std.specs.List.{HoldsAt}
-use denote.Bor.{Bor}
-use Rattle.ta_base.proofs.Lists.{get_map}
-use Rattle.ta_moment_tree.proofs.Common.{length-map, slice_get_read}
+use Rattle.ta_moment_tree.proofs.Common.{Option, arith, sym, ap, refl, cond_same, cond_apart, slice_get_past, AllByRecursion, drop_more, IfSome, MatchOption}
+use Rattle.ta_moment_tree.proofs.Common.{option_map, option_copied, HoldsAt, Bor, get_map, length-map, slice_get_read, moment_of, moments_of, below_or_last}
+use Rattle.ta_moment_tree.proofs.Common.{slice_get_before, Form, number_form, unknown_form, minus_form, plus_form, Vector, form_of, vector_of}
 use Rattle.ta_moment_tree.specs.declared.moment.Moment.{Moment as Kept}
-use Rattle.ta_moment_tree.specs.Moments.{moment_of, moments_of}
-use Rattle.ta_base.proofs.Naturals.{below_or_last}
-use Rattle.ta_base.proofs.Lists.{get_end, slice_get_before}
-use Rattle.ta_linear.specs.declared.form.Form.{Form}
-use Rattle.ta_moments.specs.Forms.{number_form, unknown_form, minus_form, plus_form}
-use Rattle.ta_moments.specs.Moments.{Vector}
+use Rattle.ta_base.proofs.Lists.{get_end}
 unfoldable use Rattle.ta_moments.specs.Moments.{fresh}
-use Rattle.ta_moment_tree.specs.Forms.{form_in, form_of, vector_of}
+use Rattle.ta_moment_tree.specs.Forms.{form_in}
 
 -- vectors with the same forms are the same
 pub vector_same : (v w : Vector) → ((r : ℕ) → v r ≡ w r) → v ≡ w

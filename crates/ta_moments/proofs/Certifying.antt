@@ -1,20 +1,17 @@
 -- nodes that refute the roots of a search of moments are the lines of a moment proof
 use Rattle.ta_moments.proofs.Common.{◌≡◌, ℕ, List, [], ◌∷◌, map, Option, sym, ap, ◌∙◌, refl, subst, false≢true, In, Automaton, Pattern, OfGuard, OfOrder}
-use Rattle.ta_moments.proofs.Common.{OfStuck, Fact, candidates, Asking, of_events, of_rest, MomentTree, ProofAsking, root}
-use Rattle.ta_base.proofs.Each.{each_from_in, each_map}
+use Rattle.ta_moments.proofs.Common.{OfStuck, Fact, candidates, Asking, of_events, of_rest, MomentTree, ProofAsking, root, each_from_in, Pending, IsLeaf, Line}
+use Rattle.ta_moments.proofs.Common.{OfLeaf, OfSplit, OfAsk, all_lines, AreListed, Maker, moment_search, node_in, pending_of}
+use Rattle.ta_base.proofs.Each.{each_map}
 use Rattle.ta_cert.specs.declared.line.Node.{Node as TreeNode}
-use Rattle.ta_cert.specs.declared.line.Node.TheVariants as node
-use Rattle.ta_encode.specs.Search.{Pending}
-use Rattle.ta_encode.specs.Refutes.{IsLeaf}
 use Rattle.ta_encode.specs.InPreorder.{RefutedInOrder as NodesRefute}
-use Rattle.ta_moments.specs.InPreorder.{Line, OfLeaf, OfSplit, OfAsk, all_lines}
-use Rattle.ta_moments.specs.Searched.{AreListed, Maker, moment_search, node_in, pending_of}
 use Rattle.ta_moments.specs.Certified.{MomentNodesAreProofs, MomentNodesShowSafety, MomentRestNodesShow, MomentRestNodesShowOfFairRuns}
 use Rattle.ta_moments.specs.Certified.{MomentRestNodesShowSafety, RefuteRoots}
 use Rattle.ta_moments.proofs.Ending.{fair_shows, rest_shows}
 use Rattle.ta_moments.proofs.Preorders.{in_order}
 use Rattle.ta_moments.proofs.Refuting.{rest_safety, safety}
 use Rattle.ta_moments.proofs.Searching.{are_a_search}
+use Rattle.ta_cert.specs.declared.line.Node.TheVariants as node
 
 -- lines whose nodes these are
 record LinesOf (nodes : List TreeNode) : Type 0 where

@@ -12,24 +12,15 @@ use Rattle.ta_moments.proofs.Common.{times_form, minus_form, opposite_form, form
 use Rattle.ta_moments.proofs.Common.{start_meanings, answers, moving_rules, needing, sparing, Vector, Moment, Point, Known, nothing_fired, early, late}
 use Rattle.ta_moments.proofs.Common.{place_form, form_at, counters_at, condition_at, event_at, guard_at, guards, below, with_more, event_vector, end_vector}
 use Rattle.ta_moments.proofs.Common.{rows_at_start, rows_of_event, unknowns_at_first, rows_of_after, rows_of_end, at_first, first_vector, rows_of_order}
-use Rattle.ta_moments.proofs.Common.{rows_of_same, with_fact, fresh, known, location_place, of_events, Exists}
-use Rattle.ta_encode.specs.System.{form_row}
-use Rattle.ta_moments.specs.Facts.{question_of}
-use Rattle.ta_moments.specs.Forms.{may_be_negative}
+use Rattle.ta_moments.proofs.Common.{rows_of_same, with_fact, fresh, known, location_place, of_events, Exists, form_row, question_of, may_be_negative}
+use Rattle.ta_moments.proofs.Common.{AreAnswers, Values, get_or_from_slice_get, expand, mul-ge-zero, place_of, rule_change, Form, Meaning}
 use Rattle.ta_moments.specs.Scaled.{ScaledQuestionsLeaveNothing, ConesHaveNoPositiveConstants, IsCone, NonePositive, ScaledValuesMeetCones, scaled_value}
-use Rattle.ta_moments.specs.Whole.{AreAnswers, form_value}
+use Rattle.ta_moments.specs.Whole.{form_value}
 use Rattle.ta_moments.specs.declared.fact.Fact.{Fact}
 use Rattle.ta_moments.specs.declared.fact.Fact.TheVariants.{Never, First, Stands, Last, Before, After, Same, Vacant, Fails}
 use Rattle.ta_moments.proofs.Unasked.{Agrees, from_each, guard_left, known_scaled, none_asked, orders_left}
-use Rattle.ta_moments.specs.Questions.{Values}
 use Rattle.ta_moments.proofs.Values.{value_is}
 use Rattle.ta_moments.proofs.Worth.{number}
-use Rattle.std.proofs.lemmas.Option.{get_or_from_slice_get}
-use Rattle.ta_base.proofs.Integers.{expand, mul-ge-zero}
-use Rattle.ta_base.proofs.Members.{place_of}
-use Rattle.ta_automaton.specs.Places.{rule_change}
-use Rattle.ta_linear.specs.declared.form.Form.{Form}
-use Rattle.ta_encode.specs.declared.meaning.Meaning.{Meaning}
 
 -- rows without positive constants
 abbrev Low : List UnknownForm → Type 0

@@ -1,13 +1,11 @@
 -- a run in which a pattern occurs, cut behind its events
-use Rattle.std.specs.Prelude.{replicate}
+use Rattle.ta_moments.proofs.Common.{replicate, append-nil, length-replicate, InSteps, fired_steps, inl, inr, ap, sym, ◌∙◌, cases_lt, ◌++◌, ◌+◌, ◌-◌, ◌≡◌, ℕ}
+use Rattle.ta_moments.proofs.Common.{zero, suc, ◌≤◌, List, [], ◌∷◌, take, length, get_or, slice_get, Some, arith, refl, subst, slice_get_within}
+use Rattle.ta_moments.proofs.Common.{slice_get-get_or, Automaton, Pattern, At, Config, Occurs, Steps, get_front, get_or_from_slice_get}
 use Rattle.std.proofs.Math.Seq.{take-append-add}
-use Rattle.std.proofs.lemmas.List.{append-nil, length-replicate, take-append-le, take-replicate}
-use Rattle.ta_moments.specs.Chains.{InSteps, fired_steps}
-use Rattle.ta_moments.proofs.Common.{inl, inr, ap, sym, ◌∙◌, cases_lt, ◌++◌, ◌+◌, ◌-◌, ◌≡◌, ℕ, zero, suc, ◌≤◌, List, [], ◌∷◌, take, length, get_or, slice_get}
-use Rattle.ta_moments.proofs.Common.{Some, arith, refl, subst, slice_get_within, slice_get-get_or, Automaton, Pattern, At, Config, Occurs, Steps}
+use Rattle.std.proofs.lemmas.List.{take-append-le, take-replicate}
 use Rattle.std.proofs.Common.{length-take-le}
-use Rattle.ta_base.proofs.Lists.{front_get, get_front}
-use Rattle.std.proofs.lemmas.Option.{get_or_from_slice_get}
+use Rattle.ta_base.proofs.Lists.{front_get}
 
 steps_cut : (a : Automaton) (c : Config) (rules : List ℕ) (later : List Config) (k : ℕ) → Steps a c rules later → Steps a c (take k rules) (take k later)
 steps_cut a c rules later zero steps = tt

@@ -1,19 +1,17 @@
 -- common denominators of fractions
 use Rattle.ta_moments.proofs.Common.{◌≡◌, ◌∙◌, ℕ, zero, suc, ◌+◌, ◌*◌, ◌<◌, ◌≤◌, ◌^◌, ℤ, pos, ◌*ℤ◌, ◌<ℤ◌, ◌&&◌, List, [], ◌∷◌, map, Some, None, cond, true}
-use Rattle.ta_moments.proofs.Common.{false, arith, ap, refl, sym, subst, ints, AllByRecursion, nat_tests}
-use Rattle.std.proofs.Common.{Bool, ◌/◌, int_div, unsigned_abs}
-use Rattle.std.proofs.Math.IntN.{*ℤ_comm}
+use Rattle.ta_moments.proofs.Common.{false, arith, ap, refl, sym, subst, ints, AllByRecursion, nat_tests, Bool, *ℤ_comm, list_all, expand, Pairwise, Values}
+use Rattle.ta_moments.proofs.Common.{fits, unsigned_abs}
+use Rattle.std.proofs.Common.{◌/◌, int_div}
 use Rattle.std.proofs.lemmas.Int.{unsigned_abs-mul}
 use Rattle.std.proofs.Math.Nat.{dvd-mul_left, dvd-mul_right, dvd_of_mul-dvd-mul_left, dvd-mul_left_of_dvd, eq-one_of_dvd-one, mul-div_cancel', mul-dvd-mul_left}
 use Rattle.std.proofs.Math.Nat.{one-dvd}
 use Rattle.std.proofs.lemmas.Nat.Gcd.{dvd_refl, dvd_trans}
 use Rattle.std.specs.Int.{◌∣◌}
-use Rattle.std.specs.List.{list_all}
-use Rattle.ta_base.proofs.Integers.{cancel_positive, div_exact, expand, pos_abs}
-use Rattle.ta_base.specs.Lists.{Pairwise}
+use Rattle.ta_base.proofs.Integers.{cancel_positive, div_exact, pos_abs}
 use Rattle.ta_linear.proofs.GcdLemmas.{IsGcd-gcd_of, dvd-gcd_of}
 use Rattle.ta_linear.specs.Gcd.{gcd_of}
-use Rattle.ta_moments.specs.Questions.{Scaled, Values, fits}
+use Rattle.ta_moments.specs.Questions.{Scaled}
 use Rattle.ta_moments.specs.Vertices.{CommonDenominatorsAreLeast, IsNumberOver, MakesWhole, PositiveDenominators, ValuesAreTheFractions}
 use Rattle.ta_moments.specs.Vertices.{WholeValuesAreTheirNumbers, common_denominator, common_divisor, denominator_with, lowest_denominator, lowest_numerator}
 use Rattle.ta_moments.specs.Vertices.{multiple_of, number_over, numbers_over, values_of, values_over}

@@ -1,13 +1,10 @@
 -- firings that go forward, with those of a rule put together: they still go forward, and are no more steps than there are rules
 use Rattle.ta_moments.proofs.Common.{◌≡◌, ◌≢◌, inl, inr, ℕ, zero, suc, ◌+◌, ◌≤◌, ℤ, ◌+ℤ◌, List, [], ◌∷◌, ◌++◌, map, length, arith, ints, sym, ap, ◌∙◌, refl}
-use Rattle.ta_moments.proofs.Common.{eqb_tells, In, in_append, total, total-append, Automaton}
-use Rattle.std.specs.Prelude.{replicate}
-use Rattle.ta_automaton.proofs.Onward.{NoneInto, Onward}
-use Rattle.std.proofs.lemmas.List.{length-map, replicate-append-replicate}
-use Rattle.ta_base.proofs.Each.{each_from_in, each_in, no_more}
-use Rattle.ta_base.proofs.Members.{In-left, In-right, in_replicate}
-use Rattle.ta_base.specs.Lists.{Distinct}
-use Rattle.ta_moments.specs.Chains.{fired_steps}
+use Rattle.ta_moments.proofs.Common.{eqb_tells, In, in_append, total, total-append, Automaton, replicate, Onward, length-map, each_from_in, In-left, In-right}
+use Rattle.ta_moments.proofs.Common.{in_replicate, Distinct, fired_steps}
+use Rattle.ta_automaton.proofs.Onward.{NoneInto}
+use Rattle.std.proofs.lemmas.List.{replicate-append-replicate}
+use Rattle.ta_base.proofs.Each.{each_in, no_more}
 
 -- ---- under a block of one rule
 none_under : (a : Automaton) (l n x : ℕ) (xs ys : List ℕ) → (NoneInto a l xs → NoneInto a l ys) → NoneInto a l (replicate n x ++ xs)

@@ -2,13 +2,11 @@
 use Rattle.ta_moments.proofs.Common.{◌≡◌, inl, inr, ℕ, ◌<◌, ◌≤◌, ℤ, pos, ◌≤ℤ◌, List, [], ◌∷◌, map, length, get_or, slice_get-get_or, slice_get_within}
 use Rattle.ta_moments.proofs.Common.{slice_get, same_Some, Some, Bool, true, false, cond, cases_Bool, cases_lt, arith, sym, ap, ◌∙◌, refl, subst, ints, All, In}
 use Rattle.ta_moments.proofs.Common.{bit_true, range_with_len, length-map, length-range_with_len, terms_value-same, Automaton, Pattern, Comparison, Config, Row}
-use Rattle.ta_moments.proofs.Common.{RowHolds, value_of, value_at, At, Holds, Initial, moving_rules}
-use Rattle.std.specs.Prelude.{nat_lt}
-use Rattle.std.proofs.lemmas.List.{get_or_past}
+use Rattle.ta_moments.proofs.Common.{RowHolds, value_of, value_at, At, Holds, Initial, moving_rules, nat_lt, get_or_past, InScope, Counts, firings_in}
+use Rattle.ta_moments.proofs.Common.{value_after, ComesThrough, Picture, Rising, HappensIn}
 use Rattle.ta_base.proofs.Naturals.{below_by, beyond_by}
 use Rattle.ta_base.proofs.Ranges.{at_index}
-use Rattle.ta_automaton.specs.Runs.{InScope}
-use Rattle.ta_moments.specs.Chains.{Counts, firings_in, value_after, Stands, ComesThrough, Picture, Rising, HappensIn, ShowsEvents}
+use Rattle.ta_moments.specs.Chains.{Stands, ShowsEvents}
 use Rattle.ta_moments.proofs.Segments.{sum_grows, sorted_is_chain}
 use Rattle.ta_moments.proofs.Pictures.{rising_in, picture_runs, value_same}
 

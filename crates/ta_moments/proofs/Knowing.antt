@@ -7,15 +7,13 @@ use Rattle.ta_moments.proofs.Common.{ComeAfterEarlier, candidates, comes_after, 
 use Rattle.ta_moments.proofs.Common.{nothing_fired, known, form_at, counters_at, condition_at, event_at, guard_at, guards, opposite_form, negated_form}
 use Rattle.ta_moments.proofs.Common.{quiet_at, source_at, below, with_fact, event_vector, end_vector, rows_at_start, rows_of_event, rows_of_after, rows_of_end}
 use Rattle.ta_moments.proofs.Common.{is_beside, unknowns_at_first, at_first, before_vector, after_vector, first_vector, rows_of_first, rows_of_last}
-use Rattle.ta_moments.proofs.Common.{rows_of_order, rows_of_same, needing, answers, Asking, Exists}
+use Rattle.ta_moments.proofs.Common.{rows_of_order, rows_of_same, needing, answers, Asking, Exists, get_end, question_of, AreAnswers, AtMost, SameStep}
+use Rattle.ta_moments.proofs.Common.{IsNatural}
 use Rattle.ta_moments.specs.declared.fact.Fact.{Fact}
 use Rattle.ta_moments.specs.declared.fact.Fact.TheVariants.{Never, First, Stands, Last, Before, After, Same, Vacant, Fails}
-use Rattle.ta_base.proofs.Lists.{get_end}
 use Rattle.ta_base.proofs.Members.{in_get_or}
 use Rattle.ta_moments.proofs.Speaking.{Spoken, VectorSpeaks, event_less, nodes_begin, spoken}
-use Rattle.ta_moments.specs.Facts.{question_of}
-use Rattle.ta_moments.specs.Whole.{AreAnswers, AtMost, SameStep, form_value}
-use Rattle.ta_moments.specs.Nodes.{IsNatural}
+use Rattle.ta_moments.specs.Whole.{form_value}
 use Rattle.ta_moments.proofs.Reading.{Met, below_met, counter_met, fresh_natural, guard_met, met_each, met_left, met_map, met_right, nothing_zero}
 use Rattle.ta_moments.proofs.Saying.{Says, Sound, fails_says, first_says, first_sound, last_rows, last_says, last_sound, never_says, order_says, same_allowed}
 use Rattle.ta_moments.proofs.Saying.{same_says, vacant_says}

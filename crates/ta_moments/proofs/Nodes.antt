@@ -2,10 +2,9 @@
 use Rattle.ta_moments.proofs.Common.{◌+◌, ◌-◌, ◌*◌, suc, range_with_len, length-range_with_len, slice_get, is_moving, ◌≡◌, ◌⊎◌, inl, inr, ℕ, ◌≤◌, pos, ◌≤ℤ◌}
 use Rattle.ta_moments.proofs.Common.{List, [], ◌∷◌, length, arith, sym, refl, ◌∙◌, subst, ints, In, slice_get_within, AllByRecursion, get_or, RowHolds, Row}
 use Rattle.ta_moments.proofs.Common.{Automaton, Pattern, location_place, moving_rules, start_meanings, Vector, Moment, early, late, form_at, rows_at_start}
-use Rattle.ta_automaton.specs.Runs.{InScope}
-use Rattle.ta_moments.specs.Chains.{Cost, Counts, NoneFewer, Comparable, firings_in, value_after, Picture, HappensIn}
-use Rattle.ta_moments.specs.Whole.{Settled, form_value}
-use Rattle.ta_moments.specs.Nodes.{BeginsAt, counts_of, IsNatural, IsMoment, positions_of, RunOfMoments, StandsApart, SettledMoments}
+use Rattle.ta_moments.proofs.Common.{InScope, Cost, Counts, NoneFewer, Comparable, firings_in, value_after, Picture, HappensIn, Settled, BeginsAt, counts_of}
+use Rattle.ta_moments.proofs.Common.{IsNatural, IsMoment, positions_of, RunOfMoments, StandsApart, SettledMoments}
+use Rattle.ta_moments.specs.Whole.{form_value}
 use Rattle.ta_moments.proofs.Starting.{natural_is, starts}
 use Rattle.ta_base.proofs.Lists.{filter_shorter}
 use Rattle.ta_moments.proofs.Segments.{sum_grows}

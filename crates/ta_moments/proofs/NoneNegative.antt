@@ -1,20 +1,13 @@
 -- where no row subtracts a silent place, its coefficients of silent places are natural
-use Rattle.std.proofs.Common.{◌≡◌, inl, inr, ℕ, zero, suc, ℤ, pos, negsuc, ◌+ℤ◌, ◌≤ℤ◌, ◌&&◌, ◌||◌, Bool, true, false, cond, List, [], ◌∷◌, Some, None}
-use Rattle.std.proofs.Common.{slice_get, arith, refl, sym, subst}
-use Rattle.std.proofs.lemmas.Int.{ints}
-use Rattle.std.proofs.lemmas.Bool.Decides.{eqb_tells}
-use Rattle.std.proofs.Common.{get_or, length, nat_lt, ◌≤◌}
+use Rattle.ta_moments.proofs.Common.{◌≡◌, inl, inr, ℕ, zero, suc, ℤ, pos, negsuc, ◌+ℤ◌, ◌≤ℤ◌, ◌&&◌, ◌||◌, Bool, true, false, cond, List, [], ◌∷◌, Some, None}
+use Rattle.ta_moments.proofs.Common.{slice_get, arith, refl, sym, subst, ints, eqb_tells, get_or, length, nat_lt, ◌≤◌, slice_get_within, list_any, position}
+use Rattle.ta_moments.proofs.Common.{coefficient, Row, below_zero, subtracts}
 use Rattle.std.proofs.lemmas.Bool.{ltb-false}
 use Rattle.std.proofs.lemmas.List.Sums.{fails_before_first}
-use Rattle.std.proofs.lemmas.Option.{slice_get_within}
-use Rattle.std.specs.List.{list_any, position, position_or_len}
+use Rattle.std.specs.List.{position_or_len}
 use Rattle.std.specs.Prelude.{◌==◌, if◌then◌else◌}
 use Rattle.ta_base.proofs.Booleans.{and_false}
-use Rattle.ta_linear.specs.Terms.{coefficient}
-use Rattle.ta_linear.specs.declared.row.Row.{Row}
-use Rattle.ta_moments.specs.Forms.{below_zero}
 use Rattle.ta_rest.specs.Quiet.{is_silent, NoneSubtracted}
-use Rattle.ta_moments.specs.Silent.{subtracts}
 
 item_at : {X : Type 0} (xs : List X) (i : ℕ) (x d : X) → slice_get xs i ≡ Some x → get_or xs i d ≡ x
 item_at [] i x d at = absurd (cc)

@@ -7,11 +7,11 @@
 -- or its last use is behind, and it held up to there; or the last use is the one firing between these two neighbours.
 use Rattle.ta_moments.proofs.Common.{◌+◌, length, ◌≡◌, ◌⊎◌, inl, inr, ℕ, ◌-◌, ◌<◌, ◌≤◌, ℤ, pos, ◌+ℤ◌, ◌*ℤ◌, ◌≤ℤ◌, List, [], ◌∷◌, slice_get, Some, arith, sym}
 use Rattle.ta_moments.proofs.Common.{ap, ◌∙◌, refl, subst, ints, In, total, Automaton, Pattern, Config, Row, RowHolds, value_of, value_at, change_of}
-use Rattle.ta_moments.proofs.Common.{moving_rules, Later, stays_true, cases_lt}
-use Rattle.ta_automaton.proofs.Onward.{after, later_after}
+use Rattle.ta_moments.proofs.Common.{moving_rules, Later, stays_true, cases_lt, after, InScope, Cost, Counts, NoneFewer, firings_in, most_steps, value_after}
+use Rattle.ta_moments.proofs.Common.{OneFiring, Link, Chain, Picture, Rising}
+use Rattle.ta_automaton.proofs.Onward.{later_after}
 use Rattle.ta_automaton.proofs.Thresholds.{fall_back, falls as falls_rows}
-use Rattle.ta_automaton.specs.Runs.{InScope}
-use Rattle.ta_moments.specs.Chains.{Cost, Counts, NoneFewer, firings_in, most_steps, value_after, OneFiring, Link, Stands, Chain, LastUse, Picture, Rising}
+use Rattle.ta_moments.specs.Chains.{Stands, LastUse}
 use Rattle.ta_moments.specs.Chains.{ShowsPicture}
 use Rattle.ta_moments.proofs.Segments.{firings, in_firings, total_firings, total_between, each_moving, sorted_is_chain, chain_runs}
 

@@ -1,10 +1,8 @@
 -- the places of names, name by name
-use Rattle.std.proofs.Common.{◌≡◌, ◌∙◌, ◌++◌, ℕ, List, [], ◌∷◌, Option, Some, None, Bor, map, ap, sym, refl}
-use Rattle.std.proofs.lemmas.List.{append-nil}
+use Rattle.ta_moments.proofs.Common.{◌≡◌, ◌∙◌, ◌++◌, ℕ, List, [], ◌∷◌, Option, Some, None, map, ap, sym, refl, append-nil, Automaton, place_named, places_named}
+use Rattle.std.proofs.Common.{Bor}
 use Rattle.std.proofs.lemmas.List.Elements.{filter_map-append}
 use Rattle.std.proofs.lemmas.List.{map-append}
-use Rattle.ta_automaton.specs.declared.automaton.Automaton.{Automaton}
-use Rattle.ta_moments.specs.Silent.{place_named, places_named}
 
 abbrev pub cons_of : Option ℕ → List ℕ
 cons_of None = []

@@ -2,12 +2,10 @@
 use Rattle.ta_moments.proofs.Common.{◌≡◌, ◌⊎◌, inl, inr, ℕ, ◌<◌, List, [], ◌∷◌, ◌&&◌, length, slice_get, Some, None, Option, Bool, true, false, not, cond}
 use Rattle.ta_moments.proofs.Common.{arith, ap, refl, subst, length-append, and_parts, same_Some, range_with_len, In, in_filter, in_map, in_numbers, Automaton}
 use Rattle.ta_moments.proofs.Common.{Pattern, Question, OfGuard, OfOrder, OfStuck, Fact, may_be_stuck, Vector, guards, end_vector, Asking, Exists, Known}
-use Rattle.ta_moments.proofs.Common.{known_at, sym}
-use Rattle.std.specs.List.{find}
-use Rattle.std.specs.Option.{option_map, option_or}
-use Rattle.ta_moments.specs.Facts.{is_open}
-use Rattle.ta_moments.specs.Questions.{GuardAtEnd, QuestionsMayBeAsked, RuleAtEnd, Values, are_settled, fails_at_end, first_order, guard_to_ask, guards_at_end}
-use Rattle.ta_moments.specs.Questions.{is_guard_open, is_needed, is_order_open, is_rule_open, order_to_ask, parts_at, rule_to_ask, rules_at_end, would_fire}
+use Rattle.ta_moments.proofs.Common.{known_at, sym, find, option_map, option_or, is_open, GuardAtEnd, RuleAtEnd, Values, are_settled, first_order, guard_to_ask}
+use Rattle.ta_moments.proofs.Common.{guards_at_end, is_guard_open, is_needed, is_order_open, is_rule_open, order_to_ask, parts_at, rule_to_ask, rules_at_end}
+use Rattle.ta_moments.specs.Questions.{QuestionsMayBeAsked, fails_at_end}
+use Rattle.ta_moments.specs.Questions.{would_fire}
 
 -- what is found passes, and stands in the list
 pub find_passes : {X : Type 0} (test : X → Bool) (xs : List X) (x : X) → find test xs ≡ Some x → (test x ≡ true) × In x xs

@@ -4,19 +4,13 @@ use Rattle.ta_moments.proofs.Common.{Some, Option, Bool, true, false, not, ◌||
 use Rattle.ta_moments.proofs.Common.{eqb_tells, In, In-filter, In-map, In-numbers, in_filter, range_with_len, range_sum, range_sum-times, get_or, any_below}
 use Rattle.ta_moments.proofs.Common.{any_below-at, one_if, Automaton, Pattern, Row, has_bit, location_place, UnknownForm, unknown_form, minus_form}
 use Rattle.ta_moments.proofs.Common.{may_be_negative, sum_form, has_guard, moving_rules, needing, sparing, Vector, nothing_fired, fresh, place_form, form_at}
-use Rattle.ta_moments.proofs.Common.{counters_at, guard_at, below}
-use Rattle.std.specs.List.{AllByRecursion}
-use Rattle.ta_base.proofs.Integers.{mul-ge-zero}
-use Rattle.ta_base.proofs.Members.{In-left, In-right}
+use Rattle.ta_moments.proofs.Common.{counters_at, guard_at, below, AllByRecursion, mul-ge-zero, In-left, In-right, below_zero, Speaks, AtMost, firings_in}
+use Rattle.ta_moments.proofs.Common.{counts_of}
 use Rattle.ta_base.proofs.Sums.{range_sum-nonpositive}
 use Rattle.ta_moments.proofs.Speaking.{VectorSpeaks}
 use Rattle.ta_moments.proofs.Worth.{number}
 use Rattle.ta_moments.proofs.Values.{value_is, value_minus, value_number, value_plus}
-use Rattle.ta_moments.specs.Forms.{below_zero}
-use Rattle.ta_moments.specs.Laws.{Speaks}
-use Rattle.ta_moments.specs.Whole.{AtMost, form_value}
-use Rattle.ta_moments.specs.Chains.{firings_in}
-use Rattle.ta_moments.specs.Nodes.{counts_of}
+use Rattle.ta_moments.specs.Whole.{form_value}
 use Rattle.ta_moments.proofs.Starting.{natural_is}
 
 -- a sum of terms that are at least 0

@@ -5,25 +5,22 @@ use Rattle.ta_moments.proofs.Common.{cases_lt, and_from, eqb-true, ne_eqb, nat_t
 use Rattle.ta_moments.proofs.Common.{range_with_len, in_numbers, any_below-at, In, in_filter, in_map, length-append, Automaton, Pattern, Event, Row, Rule, At}
 use Rattle.ta_moments.proofs.Common.{Config, Fits, value_at, value_at-location, location_place, terms_value, ComeAfterEarlier, candidates, comes_after}
 use Rattle.ta_moments.proofs.Common.{has_later, guards_of, may_be_stuck, has_guard, place_form, guards, end_vector, answers, Known, Node, known_at, of_rest}
-use Rattle.ta_moments.proofs.Common.{loud_terms, UnknownForm, number_form, terms_form, MustMove, QuietRest, without}
+use Rattle.ta_moments.proofs.Common.{loud_terms, UnknownForm, number_form, terms_form, MustMove, QuietRest, without, InScope, Occurs, get_or_from_slice_get}
+use Rattle.ta_moments.proofs.Common.{slice_get_before, slice_get_right, is_open, question_of, same_question, WholeNode, quiet_form, ending_early, endings_alike}
+use Rattle.ta_moments.proofs.Common.{loud_left}
 use Rattle.ta_moments.specs.declared.fact.Question.TheVariants.{OfStuck}
 use Rattle.ta_moments.specs.declared.fact.Fact.{Fact}
 use Rattle.ta_moments.specs.declared.fact.Fact.TheVariants.{Never, First, Stands, Last, Before, After, Same, Vacant, Fails}
-use Rattle.ta_automaton.specs.Runs.{InScope, Occurs}
-use Rattle.std.proofs.lemmas.Option.{get_or_from_slice_get}
 use Rattle.ta_base.proofs.Bits.{has_ones}
-use Rattle.ta_base.proofs.Lists.{slice_get_before, slice_get_right}
-use Rattle.ta_moments.specs.Facts.{is_open, question_of, same_question}
-use Rattle.ta_moments.specs.Whole.{WholeNode, form_value, quiet_form}
+use Rattle.ta_moments.specs.Whole.{form_value}
 use Rattle.ta_moments.specs.Nodes.{HasQuietRun}
 use Rattle.ta_moments.proofs.Cutting.{cut_at, cut_few}
 use Rattle.ta_moments.proofs.Values.{value_number, value_plus, valued}
 use Rattle.ta_moments.proofs.Saying.{Says}
 use Rattle.ta_moments.proofs.Starting.{terms_worth}
 use Rattle.ta_moments.proofs.Wholes.{allowed, asked, read_of, whole_run}
-use Rattle.ta_rest.proofs.EndingLaws.{ending_early, endings_alike, positions_within}
+use Rattle.ta_rest.proofs.EndingLaws.{positions_within}
 use Rattle.ta_rest.proofs.EndingShapes.{ending_last}
-use Rattle.ta_rest.proofs.QuietResting.{loud_left}
 use Rattle.ta_rest.proofs.Resting.{whole_at}
 use Rattle.ta_rest.specs.Endings.{ComesLast, IsEnding}
 

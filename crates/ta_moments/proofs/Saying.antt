@@ -4,18 +4,14 @@ use Rattle.ta_moments.proofs.Common.{Bool, true, false, ◌&&◌, cond, arith, s
 use Rattle.ta_moments.proofs.Common.{Pattern, Row, Rule, has_bit, location_place, number_form, minus_form, opposite_form, negated_form, sum_form, has_guard}
 use Rattle.ta_moments.proofs.Common.{moving_rules, needing, sparing, Vector, Moment, Point, Pair, early, late, Known, nothing_fired, place_form, form_at}
 use Rattle.ta_moments.proofs.Common.{counters_at, guard_at, guards, quiet_at, source_at, below, with_fact, first_vector, step_vector, before_vector}
-use Rattle.ta_moments.proofs.Common.{after_vector, steps_less_one, rows_of_first, rows_of_last, rows_of_order, rows_of_same, answers}
+use Rattle.ta_moments.proofs.Common.{after_vector, steps_less_one, rows_of_first, rows_of_last, rows_of_order, rows_of_same, answers, unsigned_abs, get_end}
+use Rattle.ta_moments.proofs.Common.{is_pair, are_pairs, AtMost, SameStep, quiet_form, OneFiring, firings_in, IsMoment, IsNatural, counts_of}
 use Rattle.ta_moments.specs.declared.fact.Question.TheVariants.{OfOrder}
 use Rattle.ta_moments.specs.declared.fact.Fact.{Fact}
 use Rattle.ta_moments.specs.declared.fact.Fact.TheVariants.{Never, First, Stands, Last, Before, After, Same, Vacant, Fails}
-use Rattle.std.specs.Prelude.{unsigned_abs}
-use Rattle.ta_base.proofs.Lists.{get_end}
 use Rattle.ta_moments.proofs.Speaking.{Spoken, VectorSpeaks, vector_more}
-use Rattle.ta_moments.specs.Moments.{is_pair}
-use Rattle.ta_moments.specs.Refutes.{are_pairs}
-use Rattle.ta_moments.specs.Whole.{AtMost, SameStep, form_value, quiet_form}
-use Rattle.ta_moments.specs.Chains.{OneFiring, firings_in}
-use Rattle.ta_moments.specs.Nodes.{IsMoment, IsNatural, LastStep, counts_of}
+use Rattle.ta_moments.specs.Whole.{form_value}
+use Rattle.ta_moments.specs.Nodes.{LastStep}
 use Rattle.ta_moments.proofs.Pictures.{firings_same}
 use Rattle.ta_moments.proofs.Values.{value_minus, value_negated, value_number, value_opposite, value_plus}
 use Rattle.ta_moments.proofs.Reading.{Met, below_met, counter_met, fresh_natural, fresh_out, guard_met, met_left, met_map, met_right, needed_out, nothing_zero}
@@ -216,9 +212,6 @@ order_says a p vs n ox oy met x y ex ey sx sy =
     let one = subst (λ (o : Option Moment). Met vs (rows_of_order a p n o oy)) ex met in
     let two = subst (λ (o : Option Moment). Met vs (rows_of_order a p n (Some x) o)) ey one in
     below_met a p n (late x) (early y) vs sx sy two
-
-are_both : (x y : Moment) → (is_pair x && is_pair y) ≡ true → (is_pair x ≡ true) × (is_pair y ≡ true)
-are_both x y e = and_parts (is_pair x) (is_pair y) e
 
 step_of : (a : Automaton) (p : Pattern) (vs : List ℕ) (x y : Moment) → is_pair x ≡ true → is_pair y ≡ true → AtMost a p vs (early x) (early y)
     → AtMost a p vs (early y) (early x) → AtMost a p vs (late x) (late y) → AtMost a p vs (late y) (late x) → SameStep a p vs x y

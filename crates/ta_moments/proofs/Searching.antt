@@ -2,22 +2,19 @@
 use Rattle.ta_moments.proofs.Common.{◌≡◌, inl, inr, ℕ, zero, suc, ◌+◌, ◌<◌, ◌≤◌, ℤ, pos, ◌≤ℤ◌, ◌<ℤ◌, Bool, true, false, cond, List, [], ◌∷◌, ◌++◌, map, length}
 use Rattle.ta_moments.proofs.Common.{slice_get, Option, Some, None, arith, sym, ap, ◌∙◌, refl, subst, false≢true, and_from, and_parts, cases_lt, AllByRecursion}
 use Rattle.ta_moments.proofs.Common.{range_with_len, In, Automaton, Pattern, Bound, bound_row, LinearRow, UnknownForm, Question, OfGuard, OfOrder, OfStuck}
-use Rattle.ta_moments.proofs.Common.{Fact, candidates, Known, Asking, Node, form_coefficient_in, form_constant_in, form_of_row}
-use Rattle.std.specs.Prelude.{◌↔◌, nat_lt, ◌&&◌, slice_index_or}
+use Rattle.ta_moments.proofs.Common.{Fact, candidates, Known, Asking, Node, form_coefficient_in, form_constant_in, form_of_row, nat_lt, ◌&&◌, nat_tests}
+use Rattle.ta_moments.proofs.Common.{AreMultipliers, Pending, IsLeaf, is_open, LeafOfForms, Speaks, Exists, answered, answers, known_at, node_rows, Line}
+use Rattle.ta_moments.proofs.Common.{OfLeaf, OfSplit, OfAsk, RefutedInOrder, AreListed, Maker, moment_search, node_in, pending_of}
+use Rattle.std.specs.Prelude.{◌↔◌, slice_index_or}
 use Rattle.std.specs.Option.{is_some}
-use Rattle.std.proofs.lemmas.Bool.Decides.{nat_tests}
-use Rattle.ta_linear.specs.Leaf.{AreMultipliers, weighted}
-use Rattle.ta_encode.specs.Search.{Pending, Search, all_or_none, longer, parts as parts_in}
-use Rattle.ta_encode.specs.Refutes.{IsLeaf, LeafOfRows, linear_coefficient_in, linear_constant_in}
+use Rattle.ta_linear.specs.Leaf.{weighted}
+use Rattle.ta_encode.specs.Search.{Search, all_or_none, longer, parts as parts_in}
+use Rattle.ta_encode.specs.Refutes.{LeafOfRows, linear_coefficient_in, linear_constant_in}
 use Rattle.ta_encode.specs.InPreorder.{MayStand as StandsIn, RefutedInOrder as NodesRefute}
 use Rattle.ta_encode.proofs.CodeRows.{weighted_same}
-use Rattle.ta_moments.specs.Facts.{is_open}
-use Rattle.ta_moments.specs.Forms.{LeafOfForms}
-use Rattle.ta_moments.specs.Laws.{Speaks}
 use Rattle.ta_moments.specs.Moments.{known}
-use Rattle.ta_moments.specs.Refutes.{Exists, answered, answers, known_at, node_rows}
-use Rattle.ta_moments.specs.InPreorder.{Line, OfLeaf, OfSplit, OfAsk, MayStand, RefutedInOrder, parts}
-use Rattle.ta_moments.specs.Searched.{AreListed, Maker, MomentsAreASearch, answers_if_open, candidate_of, exists_as, moment_search, node_in, pending_of}
+use Rattle.ta_moments.specs.InPreorder.{MayStand, parts}
+use Rattle.ta_moments.specs.Searched.{MomentsAreASearch, answers_if_open, candidate_of, exists_as}
 use Rattle.ta_moments.specs.Searched.{row_of_form, start_of}
 use Rattle.ta_moments.proofs.Speaking.{rows_speak}
 

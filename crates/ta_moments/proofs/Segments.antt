@@ -8,22 +8,18 @@ use Rattle.ta_moments.proofs.Common.{get_or, slice_get, Some, None, Option, true
 use Rattle.ta_moments.proofs.Common.{eqb-false, not-true, and_parts, false≢true, In, in_filter, in_append, range_with_len, length-append, append_assoc}
 use Rattle.ta_moments.proofs.Common.{same_Some, distributes, one_if, Fits, value_at-location, has_bit, total, total-append, terms_value-same, Automaton}
 use Rattle.ta_moments.proofs.Common.{Pattern, Config, Row, RowHolds, value_of, Steps, Step, value_at, change_of, location_place, moving_rules, is_moving}
-use Rattle.ta_moments.proofs.Common.{IsBitSet}
-use Rattle.std.specs.Prelude.{min, replicate, slice_index}
-use Rattle.std.proofs.lemmas.List.{length-replicate}
-use Rattle.std.proofs.Math.IntN.{*ℤ_comm}
+use Rattle.ta_moments.proofs.Common.{IsBitSet, replicate, length-replicate, *ℤ_comm, in_replicate, one_if-ne, Onward, after, At, InScope, Rule, Counts}
+use Rattle.ta_moments.proofs.Common.{NoneFewer, Comparable, InSteps, fired_steps, firings_in, most_steps, value_after, Link, Chain, ComesThrough}
+use Rattle.std.specs.Prelude.{min, slice_index}
 use Rattle.ta_base.proofs.Lists.{without_last, only_item}
-use Rattle.ta_base.proofs.Members.{in_replicate}
 use Rattle.ta_base.proofs.Naturals.{untouched}
-use Rattle.ta_base.proofs.Totals.{one_if-ne, total-replicate}
-use Rattle.ta_automaton.proofs.Onward.{EachRule, Onward, Piece, after, change_location, fire_in_order, holds_before_last}
+use Rattle.ta_base.proofs.Totals.{total-replicate}
+use Rattle.ta_automaton.proofs.Onward.{EachRule, Piece, change_location, fire_in_order, holds_before_last}
 use Rattle.ta_automaton.proofs.Trails.{Trail, Grows}
 use Rattle.ta_encode.proofs.Appending.{trail_append, trail_begun}
 use Rattle.ta_automaton.proofs.Rearranged.{each_rule_from, rearrange}
-use Rattle.ta_automaton.specs.Runs.{At, InScope}
-use Rattle.ta_automaton.specs.declared.rule.Rule.{Rule}
-use Rattle.ta_moments.specs.Chains.{Counts, NoneFewer, Comparable, InSteps, fired_steps, firings_in, most_steps, value_after, Link, Stands, LeadsOn, Chain}
-use Rattle.ta_moments.specs.Chains.{ComesThrough, RunsAlong}
+use Rattle.ta_moments.specs.Chains.{Stands, LeadsOn}
+use Rattle.ta_moments.specs.Chains.{RunsAlong}
 use Rattle.ta_moments.proofs.Grouping.{group, grouped_few}
 
 pub sum_grows : (rules : List ℕ) (v w : Counts) → NoneFewer rules v w → firings_in rules v ≤ firings_in rules w

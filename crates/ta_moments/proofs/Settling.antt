@@ -1,9 +1,7 @@
 -- settled moments as counts
 use Rattle.ta_moments.proofs.Common.{◌⊎◌, inl, inr, ℕ, ◌≤ℤ◌, List, arith, sym, subst, ints, In, Automaton, Pattern, moving_rules, Vector, Moment, Point, Pair}
-use Rattle.ta_moments.proofs.Common.{early, late}
-use Rattle.ta_moments.specs.Chains.{Counts, NoneFewer, Comparable}
-use Rattle.ta_moments.specs.Whole.{AtMost, Settled, form_value}
-use Rattle.ta_moments.specs.Nodes.{counts_of, IsNatural, IsMoment, positions_of, StandsApart}
+use Rattle.ta_moments.proofs.Common.{early, late, Counts, NoneFewer, Comparable, AtMost, Settled, counts_of, IsNatural, IsMoment, positions_of, StandsApart}
+use Rattle.ta_moments.specs.Whole.{form_value}
 use Rattle.ta_moments.proofs.Starting.{natural_is}
 
 pub fewer : (a : Automaton) (p : Pattern) (values : List ℕ) (v w : Vector) → IsNatural a p values v → IsNatural a p values w → AtMost a p values v w

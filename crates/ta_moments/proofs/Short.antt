@@ -1,17 +1,14 @@
 -- how many accelerated steps the run of a whole node has: its moments are the events and those of guards, each of which is asked once
-use Rattle.std.proofs.Math.Nat.{mul-le-mul_right}
 use Rattle.ta_moments.proofs.Common.{Node, AllByRecursion, Exists, Vector, first_vector, before_vector, after_vector, with_fact, length-append, length-map}
 use Rattle.ta_moments.proofs.Common.{length-range_with_len, range_with_len, eq-eqb, ◌≡◌, ◌⊎◌, inl, inr, ℕ, ◌+◌, ◌<◌, ◌≤◌, List, [], ◌∷◌, length, Option, Bool}
 use Rattle.ta_moments.proofs.Common.{true, false, not, ◌&&◌, arith, sym, ap, ◌∙◌, refl, subst, false≢true, In, Automaton, Pattern, Point, Pair, Known, known}
-use Rattle.ta_moments.proofs.Common.{event_vector, end_vector, Asking, known_at}
+use Rattle.ta_moments.proofs.Common.{event_vector, end_vector, Asking, known_at, is_open, question_of, same_question, AreAnswers, each_from_in, Distinct}
+use Rattle.std.proofs.Math.Nat.{mul-le-mul_right}
 use Rattle.ta_moments.specs.declared.fact.Question.{Question}
 use Rattle.ta_moments.specs.declared.fact.Question.TheVariants.{OfGuard}
 use Rattle.ta_moments.specs.declared.fact.Fact.{Fact}
 use Rattle.ta_moments.specs.declared.fact.Fact.TheVariants.{Never, First, Stands, Last, Before, After, Same, Vacant, Fails}
-use Rattle.ta_moments.specs.Facts.{is_open, question_of, same_question}
-use Rattle.ta_moments.specs.Whole.{AreAnswers}
-use Rattle.ta_base.proofs.Each.{distinct_length, each_from_in}
-use Rattle.ta_base.specs.Lists.{Distinct}
+use Rattle.ta_base.proofs.Each.{distinct_length}
 use Rattle.ta_moments.specs.Nodes.{AskedOnce, WholeNodesHaveShortRuns}
 use Rattle.ta_moments.proofs.Wholes.{whole_run}
 

@@ -1,15 +1,13 @@
 -- solutions of the code's systems and values that meet a node's rows
 use Rattle.ta_moments.proofs.Common.{◌≡◌, ℕ, zero, suc, ◌<◌, pos, ◌+ℤ◌, ◌*ℤ◌, ◌≤ℤ◌, List, [], ◌∷◌, length, get_or, arith, ints, sym, ap, ◌∙◌, subst}
 use Rattle.ta_moments.proofs.Common.{AllByRecursion, range_sum, range_sum-same, Row, RowHolds, coefficient, terms_value, UnknownForm, node_rows, known}
-use Rattle.std.proofs.lemmas.List.{append-nil}
-use Rattle.ta_base.specs.Lists.{Pairwise}
+use Rattle.ta_moments.proofs.Common.{append-nil, Pairwise, IsRowOfForm}
 use Rattle.ta_linear.proofs.RangeSum.{terms_value-sum}
 use Rattle.ta_linear.specs.Rows.{AllBelow}
 use Rattle.ta_linear.specs.Terms.{IsNormal}
 use Rattle.ta_moments.proofs.Cones.{none_positive}
 use Rattle.ta_moments.proofs.Values.{value_is}
 use Rattle.ta_moments.proofs.Worth.{number}
-use Rattle.ta_moments.specs.Code.{IsRowOfForm}
 use Rattle.ta_moments.specs.Scaled.{SolutionsMeetNodes, SystemsOfConesHaveNoPositiveConstants}
 use Rattle.ta_moments.specs.Whole.{form_value}
 

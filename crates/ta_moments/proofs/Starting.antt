@@ -2,16 +2,14 @@
 use Rattle.ta_moments.proofs.Common.{◌≡◌, inl, inr, ℕ, ◌≤◌, ℤ, pos, negsuc, ◌*ℤ◌, ◌≤ℤ◌, List, [], ◌∷◌, ◌++◌, map, length, slice_get, arith, ap, ◌∙◌, refl, ints}
 use Rattle.ta_moments.proofs.Common.{In, AllByRecursion, total, total-zero, terms_value, Automaton, Pattern, LinearRow, change_of, rule_change, moving_rules}
 use Rattle.ta_moments.proofs.Common.{AllHold, condition_rows, processes_row, opposite, start_meanings, place_coefficient, UnknownForm, form_of_row, number_form}
-use Rattle.ta_moments.proofs.Common.{times_form, sum_form, terms_form, Vector, start_form, place_form, form_at, rows_at_start}
-use Rattle.std.specs.Prelude.{unsigned_abs}
+use Rattle.ta_moments.proofs.Common.{times_form, sum_form, terms_form, Vector, start_form, place_form, form_at, rows_at_start, unsigned_abs, value_after}
+use Rattle.ta_moments.proofs.Common.{counts_of, IsNatural, BeginsAt}
 use Rattle.ta_encode.proofs.Begin.{first_of, first_values, first_initial, FirstRows, begin_at}
 use Rattle.ta_encode.proofs.Starts.{first_starts}
 use Rattle.ta_encode.proofs.Moments.{AllHold-left}
 use Rattle.ta_encode.proofs.Values.{AllHold-right, condition_back}
-use Rattle.ta_moments.specs.Chains.{value_after}
 use Rattle.ta_moments.proofs.Values.{valued}
 use Rattle.ta_moments.specs.Whole.{form_value}
-use Rattle.ta_moments.specs.Nodes.{counts_of, IsNatural, BeginsAt}
 use Rattle.ta_moments.proofs.Worth.{worth, worth-number, worth-plus, worth-times, worth-row}
 
 rows_met : (vs : List ℕ) (rows : List LinearRow) → AllByRecursion (λ row. pos 0 ≤ℤ form_value vs row) (map form_of_row rows) → AllHold vs rows

@@ -10,18 +10,17 @@ use Rattle.ta_moments.proofs.Common.{ints, ap, ◌∙◌, refl, subst, sym, leng
 use Rattle.ta_moments.proofs.Common.{same_Some, slice_get_within, range_with_len, range_sum-same, total, total-append, In, In-filter, In-map, In-numbers}
 use Rattle.ta_moments.proofs.Common.{in_append, in_filter, Automaton, Pattern, Row, Rule, UnknownForm, minus_form, OfGuard, OfOrder, OfStuck, Fact, guards_of}
 use Rattle.ta_moments.proofs.Common.{has_guard, may_be_stuck, moving_rules, needing, Vector, Moment, Point, Pair, early, late, guards, guard_at, quiet_at}
-use Rattle.ta_moments.proofs.Common.{source_at, place_form, location_place, end_vector}
-use Rattle.std.specs.List.{find, list_all, list_any}
-use Rattle.std.specs.Option.{option_map, option_or}
+use Rattle.ta_moments.proofs.Common.{source_at, place_form, location_place, end_vector, find, list_all, list_any, option_map, option_or, is_open, GuardAtEnd}
+use Rattle.ta_moments.proofs.Common.{RuleAtEnd, Values, are_settled, first_order, fits, guard_to_ask, guards_at_end, is_guard_open, is_needed, is_order_open}
+use Rattle.ta_moments.proofs.Common.{is_rule_open, order_to_ask, parts_at, rule_to_ask, rules_at_end, AtMost, SameStep, Settled, quiet_form}
 use Rattle.ta_base.proofs.Lists.{range_more}
 use Rattle.ta_moments.proofs.Values.{value_is, value_minus}
 use Rattle.ta_moments.proofs.Worth.{number}
-use Rattle.ta_moments.specs.Facts.{is_open}
-use Rattle.ta_moments.specs.Questions.{GuardAtEnd, RuleAtEnd, Values, are_settled, counts_natural, counts_positive, first_order, fits, guard_to_ask}
-use Rattle.ta_moments.specs.Questions.{guards_at_end, if_fits, is_at_most, is_guard_open, is_known_natural, is_needed, is_order_open, is_rule_open}
-use Rattle.ta_moments.specs.Questions.{is_same_step, is_settled, known_value, natural_values, next_question, order_before, order_to_ask, parts_at, rule_to_ask}
-use Rattle.ta_moments.specs.Questions.{rules_at_end, with_product, with_products}
-use Rattle.ta_moments.specs.Whole.{AtMost, NoQuestionLeavesNothing, SameStep, Settled, form_value, quiet_form}
+use Rattle.ta_moments.specs.Questions.{counts_natural, counts_positive}
+use Rattle.ta_moments.specs.Questions.{if_fits, is_at_most, is_known_natural}
+use Rattle.ta_moments.specs.Questions.{is_same_step, is_settled, known_value, natural_values, next_question, order_before}
+use Rattle.ta_moments.specs.Questions.{with_product, with_products}
+use Rattle.ta_moments.specs.Whole.{NoQuestionLeavesNothing, form_value}
 
 -- ---- lists and options
 all_pass : {X : Type 0} (test : X → Bool) (xs : List X) → list_all test xs ≡ true → (x : X) → In x xs → test x ≡ true

@@ -9,21 +9,17 @@ use Rattle.ta_moments.proofs.Common.{map, length, slice_get, Some, Option, Bool,
 use Rattle.ta_moments.proofs.Common.{cases_Bool, cases_lt, and_parts, eqb-true, nat_tests, false≢true, same_Some, slice_get_within, bit_true, has_bit, In}
 use Rattle.ta_moments.proofs.Common.{In-filter, in_at, Automaton, Pattern, Event, Row, Rule, File, ComeAfterEarlier, after_earlier, pattern_within, comes_after}
 use Rattle.ta_moments.proofs.Common.{has_guard, moving_rules, needing, Moment, Point, Pair, Known, known, guards, event_vector, end_vector, rows_at_start}
-use Rattle.ta_moments.proofs.Common.{form_of_row, bound_row, answers, Asking, Node, known_at, node_rows}
+use Rattle.ta_moments.proofs.Common.{form_of_row, bound_row, answers, Asking, Node, known_at, node_rows, IsBitSet, InScope, slice_get_before, slice_get_right}
+use Rattle.ta_moments.proofs.Common.{place_of, is_open, question_of, same_question, AreAnswers, SameStep, Settled, WholeNode, RunOfMoments, SettledMoments}
 use Rattle.ta_moments.specs.declared.fact.Question.{Question}
 use Rattle.ta_moments.specs.declared.fact.Question.TheVariants.{OfGuard, OfOrder}
 use Rattle.ta_moments.specs.declared.fact.Fact.{Fact}
 use Rattle.ta_moments.specs.declared.fact.Fact.TheVariants.{Never, First, Stands, Last, Before, After, Same, Vacant, Fails}
-use Rattle.std.specs.Prelude.{IsBitSet}
-use Rattle.ta_automaton.specs.Runs.{InScope}
-use Rattle.ta_base.proofs.Lists.{slice_get_before, slice_get_right}
-use Rattle.ta_base.proofs.Members.{place_of}
 use Rattle.ta_encode.specs.Laws.{HasRun}
 use Rattle.ta_moments.proofs.Speaking.{spoken}
-use Rattle.ta_moments.specs.Facts.{is_open, question_of, same_question}
-use Rattle.ta_moments.specs.Whole.{AreAnswers, NothingLeft, SameStep, Settled, WholeNode, form_value}
+use Rattle.ta_moments.specs.Whole.{NothingLeft, form_value}
 use Rattle.ta_moments.proofs.Cones.{scaled_left, scaled_met}
-use Rattle.ta_moments.specs.Nodes.{VerticesOfConesBecomeRuns, RunOfMoments, SettledMoments}
+use Rattle.ta_moments.specs.Nodes.{VerticesOfConesBecomeRuns}
 use Rattle.ta_moments.proofs.Knowing.{NodeRead, after_met, event_moment, end_natural, event_holds, node_read}
 use Rattle.ta_moments.proofs.Nodes.{settled_runs}
 use Rattle.ta_moments.proofs.Reading.{all_met, met_all, met_left}

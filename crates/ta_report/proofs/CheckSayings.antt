@@ -1,18 +1,14 @@
 -- What the line of JSON of `check` or `rest-check` says, and that it is read so.
 use Rattle.ta_report.proofs.Common.{ℕ, zero, suc, ◌+◌, ◌<◌, ◌≡◌, Bool, true, false, ◌||◌, List, [], ◌∷◌, length, get_or, codes, refl, sym, ap, ◌∙◌, arith}
-use Rattle.ta_report.proofs.Common.{Option, Some, slice_get, read, compact_text, differ}
-use Rattle.ta_report.proofs.Common.{distinct_map_at, pattern_name, File, Pattern, ReportSample, JsonSays, has_float, items_have_float, items_of, of_members}
-use Rattle.ta_report.proofs.Common.{members_outline, sample_data, is_proved, word_told}
-use Rattle.std.specs.Prelude.{None, IsTrue, if◌then◌else◌}
-use Rattle.std.proofs.lemmas.List.{append_cancel_right}
-use Rattle.std.proofs.lemmas.Option.{same_Some}
-use Rattle.serde_json.specs.Data as json
-use Rattle.serde_json.specs.Find.{get, get_item}
-use Rattle.ta_report.specs.CheckJson.{ProofsAreRead, ToldProved, all_proofs_data, proofs_data, proofs_json, proved_word, told_data}
+use Rattle.ta_report.proofs.Common.{Option, Some, slice_get, read, compact_text, differ, distinct_map_at, pattern_name, File, Pattern, ReportSample, JsonSays}
+use Rattle.ta_report.proofs.Common.{has_float, items_have_float, items_of, of_members, members_outline, sample_data, is_proved, word_told, None, IsTrue}
+use Rattle.ta_report.proofs.Common.{if◌then◌else◌, append_cancel_right, same_Some, get, get_item, proofs_data, proofs_json, proved_word, told_data}
+use Rattle.ta_report.specs.CheckJson.{ProofsAreRead, ToldProved, all_proofs_data}
 use Rattle.ta_report.proofs.JsonItems.{no_sample_floats}
 use Rattle.ta_report.proofs.JsonSayings.{array_same, at_key, string_same}
 use Rattle.ta_report.proofs.Printed.{printed_proved}
 use Rattle.ta_report.proofs.ReadBack.{AreRead, IsRead, array_read, item_read, member_step, none_read, object_same, read_back, sample_read}
+use Rattle.serde_json.specs.Data as json
 
 -- the items of the list
 abbrev pub proofs_list : Bool → List ℕ → ℕ → List Pattern → List json.Data

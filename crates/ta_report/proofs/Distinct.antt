@@ -6,8 +6,8 @@ use Rattle.ta_report.proofs.Common.{Spent, Overflow, PlaceFits, ReportsAreDistin
 use Rattle.ta_report.proofs.Common.{sample_line, sample_text, spent_text, values_text, verdict_line, verdict_lines, verdict_text}
 use Rattle.ta_replay.specs.declared.run.Run.{Run as RunOf}
 use Rattle.ta_replay.proofs.Decimals.{number_same as value_once}
-use Rattle.ta_report.specs.declared.verdict.ReportSample.TheVariants as sample
 use Rattle.ta_base.proofs.Lists.{behind_three}
+use Rattle.ta_report.specs.declared.verdict.ReportSample.TheVariants as sample
 
 -- the place in front of a line's end is determined
 pub place_same : (j k : ReportKind) (r s : List ℕ) → PlaceFits j → PlaceFits k → place_text j ++ (10 ∷ r) ≡ place_text k ++ (10 ∷ s) → (j ≡ k) × (r ≡ s)

@@ -1,34 +1,26 @@
 -- A text is of one file.
-use Rattle.std.proofs.Common.{ℕ, ℤ, pos, unsigned_abs, ◌+◌, ◌<◌, ◌≤◌, ◌≤ℤ◌, ◌^◌, ◌≡◌, ◌∙◌, List, [], ◌∷◌, ◌++◌, length, ap, sym, refl, arith, codes, decimal}
-use Rattle.std.proofs.Common.{append_assoc, length-append}
-use Rattle.std.specs.Fmt.{signed_decimal}
-use Rattle.std.specs.List.{AllByRecursion}
-use Rattle.std.proofs.lemmas.List.{append_cancel_left}
+use Rattle.ta_report.proofs.Common.{ℕ, ℤ, pos, unsigned_abs, ◌+◌, ◌<◌, ◌≤◌, ◌^◌, ◌≡◌, ◌∙◌, List, [], ◌∷◌, ◌++◌, length, ap, sym, refl, arith, codes, decimal}
+use Rattle.ta_report.proofs.Common.{append_assoc, length-append, signed_decimal, AllByRecursion, append_cancel_left, LARGEST_NUMBER, Distinct, first_byte}
+use Rattle.ta_report.proofs.Common.{number_same, each_front, Automaton, File, Event, Pattern, Name, PatternWithin, each, mask_text, name_text, name_at}
+use Rattle.ta_report.proofs.Common.{location_text, sum_text, row_text, condition_text, update_text, rule_text}
+use Rattle.std.proofs.Common.{◌≤ℤ◌}
 use Rattle.std.proofs.lemmas.Int.{ints}
-use Rattle.ta_base.specs.declared.limits.TheConstants.{LARGEST_NUMBER}
-use Rattle.ta_base.specs.Lists.{Distinct, EachFrom}
-use Rattle.ta_base.proofs.Lists.{first_byte}
-use Rattle.ta_base.proofs.DecimalDigits.{number_same}
-use Rattle.ta_base.proofs.Each.{distinct_left, distinct_right, each_front, each_back, each_weaker}
+use Rattle.ta_base.specs.Lists.{EachFrom}
+use Rattle.ta_base.proofs.Each.{distinct_left, distinct_right, each_back, each_weaker}
 use Rattle.ta_base.proofs.Ranges.{each_below, rises_length}
 use Rattle.ta_linear.specs.Terms.{IsNormal}
 use Rattle.ta_linear.specs.declared.form.Form.{Form}
 use Rattle.ta_linear.specs.declared.row.Row.{Row}
-use Rattle.ta_automaton.specs.declared.automaton.Automaton.{Automaton}
 use Rattle.ta_automaton.specs.declared.condition.Comparison.{Comparison}
 use Rattle.ta_automaton.specs.declared.condition.Condition.{Condition}
-use Rattle.ta_automaton.specs.declared.file.File.{File}
-use Rattle.ta_automaton.specs.declared.pattern.Event.{Event}
-use Rattle.ta_automaton.specs.declared.pattern.Pattern.{Pattern}
 use Rattle.ta_automaton.specs.declared.rule.Rule.{Rule}
-use Rattle.ta_automaton.specs.Names.{Name}
 use Rattle.ta_automaton.specs.Forms.{FormOver, ConditionOver, RowOver, RiseRow, FallRow}
 use Rattle.ta_automaton.specs.Shape.{Update, RuleWithin}
-use Rattle.ta_automaton.specs.Patterns.{EventWithin, PatternWithin}
+use Rattle.ta_automaton.specs.Patterns.{EventWithin}
 use Rattle.ta_meaning.proofs.EqualParts.{form-equal, row-equal, comparison-equal, condition-equal, rule-equal, event-equal, pattern-equal, automaton-equal}
 use Rattle.ta_meaning.proofs.EqualParts.{file-equal}
-use Rattle.ta_report.specs.Show.{each, listed, mask_text, name_text, name_at, location_text, sum_text, row_text, comparison_text, condition_text, update_text}
-use Rattle.ta_report.specs.Show.{rule_text, event_text, pattern_text, order_text, automaton_text, show_text}
+use Rattle.ta_report.specs.Show.{listed, comparison_text}
+use Rattle.ta_report.specs.Show.{event_text, pattern_text, order_text, automaton_text, show_text}
 use Rattle.ta_report.specs.Determined.{ShowsDiffer}
 use Rattle.ta_report.proofs.Sums.{SameNames, TermFits, count, summands_same}
 use Rattle.ta_report.proofs.Tells.{Tells, listed_same, name_tells, name_avoids, numbered_name, signed_same, MaskFits, mask_same}

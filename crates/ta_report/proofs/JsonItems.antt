@@ -5,8 +5,8 @@ use Rattle.ta_report.proofs.Common.{take-append-le, items_of, items_view, view, 
 use Rattle.ta_report.proofs.Common.{lines_text, run_lines, Avoids, ReportSample, Verdict, Safe, Unsafe, Spent, Overflow, report_data, sample_data, text_lines}
 use Rattle.ta_report.proofs.Common.{texts_data, unknown_sample_data, unknown_verdict_data, value_data, values_data, verdict_data, verdicts_data}
 use Rattle.std.proofs.Math.Seq.{take-length}
-use Rattle.serde_json.specs.Data as json
 use Rattle.serde_json.specs.declared.value.Value.{Value}
+use Rattle.serde_json.specs.Data as json
 use Rattle.ta_report.specs.declared.verdict.ReportSample.TheVariants as sample
 
 -- the items of lists

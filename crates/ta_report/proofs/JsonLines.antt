@@ -1,35 +1,21 @@
 -- No line of a report in JSON begins as the line of a pattern does: the whole report is one line, and it begins with a brace
-use Rattle.std.proofs.Common.{arith, ℕ, ℤ, ◌≡◌, ◌≢◌, ◌+◌, ◌++◌, ◌∷◌, [], List, Bool, true, false, cond, codes, decimal, if◌then◌else◌, sym, subst, refl, inl}
-use Rattle.std.proofs.Common.{inr, lit<}
-use Rattle.std.proofs.lemmas.Bool.Decides.{eqb_tells}
+use Rattle.ta_report.proofs.Common.{arith, ℕ, ℤ, ◌≡◌, ◌+◌, ◌++◌, ◌∷◌, [], List, Bool, true, false, cond, codes, decimal, if◌then◌else◌, sym, subst, refl, inl}
+use Rattle.ta_report.proofs.Common.{inr, lit<, eqb_tells, signed_decimal, ◌||◌, ◌==◌, compact_text, File, Pattern, Avoids, avoids-append, avoids_known}
+use Rattle.ta_report.proofs.Common.{behind_line, either_clear, heads_apart, run_lines, Option, None, Some, word_told, given_members, proofs_data, proofs_json}
+use Rattle.ta_report.proofs.Common.{proofs_member, proofs_of, proved_word, told_data, json_text, report_data, sample_data, texts_data, value_data, values_data}
+use Rattle.ta_report.proofs.Common.{verdict_data, verdict_member, verdicts_data, HasLine, LineAt, told_of, picked, unsafe_words, TellsSafe, TellsUnsafe}
+use Rattle.ta_report.proofs.Common.{report_of, place_text, safe_word, unsafe_word, Pick, ReportKind, ReportSample, Verdict, Safe, Unsafe, Spent, Overflow}
+use Rattle.std.proofs.Common.{◌≢◌}
 use Rattle.std.proofs.lemmas.List.Concat.{flat_map-cons}
 use Rattle.std.specs.Char.{digit_char}
-use Rattle.std.specs.Fmt.{signed_decimal}
-use Rattle.std.specs.Prelude.{◌/◌, ◌%◌, nat_lt, ◌||◌, ◌==◌}
+use Rattle.std.specs.Prelude.{◌/◌, ◌%◌, nat_lt}
 use Rattle.json.specs.Print.{escape, escape_byte, escape_letter, quoted}
+use Rattle.serde_json.specs.Written.{comma_if, items_text, members_text}
+use Rattle.ta_report.specs.CheckJson.{TellsProved}
+use Rattle.ta_report.specs.Json.{place_members, spent_members}
+use Rattle.ta_report.specs.PrintedRuns.{safe_words}
 use Rattle.serde_json.specs.Data as json
-use Rattle.serde_json.specs.Written.{comma_if, compact_text, items_text, members_text}
-use Rattle.ta_automaton.specs.declared.file.File.{File}
-use Rattle.ta_automaton.specs.declared.pattern.Pattern.{Pattern}
-use Rattle.ta_base.specs.Bytes.{Avoids}
-use Rattle.ta_base.proofs.Lists.{avoids-append, avoids_known, behind_line, either_clear, heads_apart}
-use Rattle.ta_replay.specs.RunText.{run_lines}
-use Rattle.std.specs.Prelude.{Option, None, Some}
-use Rattle.ta_report.specs.Check.{word_told}
-use Rattle.ta_report.specs.CheckJson.{TellsProved, given_members, proofs_data, proofs_json, proofs_member, proofs_of, proved_word, told_data}
-use Rattle.ta_report.specs.Json.{json_text, place_members, report_data, sample_data, spent_members, texts_data, value_data, values_data, verdict_data}
-use Rattle.ta_report.specs.Json.{verdict_member, verdicts_data}
-use Rattle.ta_report.specs.Printed.{HasLine, LineAt, told_of}
-use Rattle.ta_report.specs.Picked.{picked}
-use Rattle.ta_report.specs.PrintedRuns.{safe_words, unsafe_words}
-use Rattle.ta_report.specs.Telling.{TellsSafe, TellsUnsafe, report_of}
-use Rattle.ta_report.specs.Report.{place_text, safe_word, unsafe_word}
-use Rattle.ta_report.specs.declared.pick.Pick.{Pick}
-use Rattle.ta_report.specs.declared.verdict.ReportKind.{ReportKind}
-use Rattle.ta_report.specs.declared.verdict.ReportSample.{ReportSample}
 use Rattle.ta_report.specs.declared.verdict.ReportSample.TheVariants as sample
-use Rattle.ta_report.specs.declared.verdict.Verdict.{Verdict}
-use Rattle.ta_report.specs.declared.verdict.Verdict.TheVariants.{Safe, Unsafe, Spent, Overflow}
 
 chosen : (b : Bool) (x y : ℕ) → x ≢ 10 → y ≢ 10 → cond b x y ≢ 10
 chosen true x y f g = f

@@ -4,17 +4,15 @@ use Rattle.ta_report.proofs.Common.{ap, ◌∙◌, arith, slice_get, Some, signe
 use Rattle.ta_report.proofs.Common.{Pattern, Pick, entry_of, first_picked, picked, safe_word, unsafe_word, distinct_map_at, pattern_name, Value, lines_text}
 use Rattle.ta_report.proofs.Common.{run_lines, run_front, ReportKind, ReportSample, Verdict, Safe, Unsafe, Spent, Overflow, JsonIsDistinct, JsonRuns, JsonSafe}
 use Rattle.ta_report.proofs.Common.{JsonSays, JsonUnsafe, json_text, report_data, sample_data, texts_data, value_data, values_data, verdict_data, verdicts_data}
-use Rattle.ta_report.proofs.Common.{PlaceFits, SampleFits, VerdictFits, place_text}
+use Rattle.ta_report.proofs.Common.{PlaceFits, SampleFits, VerdictFits, place_text, same_Some, get, get_item}
 use Rattle.std.proofs.lemmas.Fmt.{decimal_injective}
-use Rattle.std.proofs.lemmas.Option.{same_Some}
-use Rattle.serde_json.specs.Data as json
-use Rattle.serde_json.specs.Find.{get, get_item}
 use Rattle.ta_replay.specs.declared.run.Run.{Run as RunOf}
 use Rattle.ta_replay.proofs.Decimals.{number_same as value_once}
-use Rattle.ta_report.specs.declared.verdict.ReportSample.TheVariants as sample
 use Rattle.ta_report.proofs.Distinct.{place_same}
 use Rattle.ta_report.proofs.Picks.{entry_there, picked_there}
 use Rattle.ta_report.proofs.ReadBack.{json_read}
+use Rattle.serde_json.specs.Data as json
+use Rattle.ta_report.specs.declared.verdict.ReportSample.TheVariants as sample
 
 -- texts of a string, and the items of an array
 pub string_same : (xs ys : List ℕ) → Some (json.string xs) ≡ Some (json.string ys) → xs ≡ ys

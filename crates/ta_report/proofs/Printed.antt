@@ -6,21 +6,18 @@ use Rattle.ta_report.proofs.Common.{first_byte, heads_apart, File, Pattern, Pick
 use Rattle.ta_report.proofs.Common.{Value, lines_text, named_line, run_lines, run_text, valued_line, Avoids, number_avoids, each_run_line, run_clear}
 use Rattle.ta_report.proofs.Common.{ReportKind, Pivot, Leaf, Run, ReportSample, Verdict, Safe, Unsafe, Spent, Overflow, is_proved, proofs_text, proofs_told}
 use Rattle.ta_report.proofs.Common.{word_told, PlaceFits, SampleFits, VerdictFits, overflow_text, place_text, rest_word, run_part, sample_line, sample_text}
-use Rattle.ta_report.proofs.Common.{spent_text, told_lines, told_text, values_text, verdict_text, word_before}
-use Rattle.ta_base.specs.Lists.{Distinct}
-use Rattle.ta_automaton.specs.Names.{Name}
+use Rattle.ta_report.proofs.Common.{spent_text, told_lines, told_text, values_text, verdict_text, word_before, Distinct, Name, Option, None, IsTrue, given_line}
+use Rattle.ta_report.proofs.Common.{proved_word, HasLine, LineAt, told_of, unsafe_words}
 use Rattle.ta_replay.specs.declared.run.Run.{Run as RunOf}
 use Rattle.ta_replay.specs.Fits.{Fits}
 use Rattle.ta_replay.proofs.Statements.{word_of}
-use Rattle.ta_report.specs.declared.verdict.ReportSample.TheVariants as sample
-use Rattle.std.specs.Prelude.{Option, None, IfSome, IsTrue}
-use Rattle.ta_report.specs.Check.{given_line}
-use Rattle.ta_report.specs.CheckJson.{proved_word}
-use Rattle.ta_report.specs.Printed.{HasLine, LineAt, PrintedRestSafe, PrintedRestUnsafe, PrintedSafe, PrintedUnsafe, told_of}
-use Rattle.ta_report.specs.PrintedRuns.{BeginsText, IsPlain, PrintedRuns, RunsArePrinted, unsafe_words}
+use Rattle.std.specs.Prelude.{IfSome}
+use Rattle.ta_report.specs.Printed.{PrintedRestSafe, PrintedRestUnsafe, PrintedSafe, PrintedUnsafe}
+use Rattle.ta_report.specs.PrintedRuns.{BeginsText, IsPlain, PrintedRuns, RunsArePrinted}
 use Rattle.ta_report.proofs.Distinct.{sample_flat}
 use Rattle.ta_report.proofs.Picks.{each_picked, entry_picked, entry_there, picked_there}
 use Rattle.ta_base.proofs.Lists.{first_chosen}
+use Rattle.ta_report.specs.declared.verdict.ReportSample.TheVariants as sample
 
 -- a line begins so, or one behind it does
 here_or_behind : (front xs rest behind : List ℕ) → Avoids 10 xs → LineAt front behind (xs ++ (10 ∷ rest)) → (xs ++ (10 ∷ rest) ≡ front ++ behind)

@@ -6,12 +6,12 @@ use Rattle.ta_report.proofs.Common.{digits_data, report_data, sample_data, texts
 use Rattle.ta_report.proofs.Common.{verdict_data, verdict_member, verdicts_data}
 use Rattle.json.specs.Token.{Token}
 use Rattle.json.specs.Lex.{tokens}
-use Rattle.json.specs.Json as grammar
 use Rattle.json.specs.Tree.{HasNumbers, ItemsHaveNumbers, depth, items_depth, json_tokens}
 use Rattle.json.proofs.Printed.Tokens.{tokens-print}
 use Rattle.json.proofs.Printed.Trees.{ArePrintable-json_tokens, value-json_tokens}
-use Rattle.serde_json.specs.Data as json
 use Rattle.serde_json.proofs.Texts.{print-outline}
+use Rattle.json.specs.Json as grammar
+use Rattle.serde_json.specs.Data as json
 use Rattle.ta_report.specs.declared.verdict.ReportSample.TheVariants as sample
 
 -- data that is read back from its text: it has no number, nests no deeper than this, and its members are in order

@@ -1,10 +1,8 @@
 -- What is said of proved patterns speaks of a file's automaton and of its patterns' names, and of nothing else of it.
-use Rattle.ta_report.proofs.Common.{◌≡◌, ◌∙◌, ◌+◌, ◌++◌, ◌∷◌, [], ℕ, Bool, true, false, List, Option, None, Some, refl, ap, codes, File, Pattern}
-use Rattle.ta_report.proofs.Common.{ReportSample, compact_text, is_proved, proofs_text, proofs_told, values_data, values_text, word_told}
+use Rattle.ta_report.proofs.Common.{◌≡◌, ◌∙◌, ◌+◌, ◌++◌, ◌∷◌, [], ℕ, Bool, true, false, List, Option, None, Some, refl, ap, codes, File, Pattern, ReportSample}
+use Rattle.ta_report.proofs.Common.{compact_text, is_proved, proofs_text, proofs_told, values_data, values_text, word_told, Automaton, given_line}
+use Rattle.ta_report.proofs.Common.{given_members, proofs_data, proofs_json, proofs_member, proofs_of, told_data}
 use Rattle.serde_json.specs.Data as json
-use Rattle.ta_automaton.specs.declared.automaton.Automaton.{Automaton}
-use Rattle.ta_report.specs.Check.{given_line}
-use Rattle.ta_report.specs.CheckJson.{given_members, proofs_data, proofs_json, proofs_member, proofs_of, told_data}
 use Rattle.ta_report.specs.declared.verdict.ReportSample.TheVariants as sample
 
 -- patterns with the same names, one by one

@@ -1,13 +1,8 @@
 -- Texts written piece by piece.
-use Rattle.std.proofs.Common.{ℕ, ℤ, suc, unsigned_abs, ◌==◌, [], decimal, ◌≡◌, ◌<◌, ◌≤◌, ◌+◌, ◌-◌, ◌∙◌, List, ◌∷◌, ◌++◌, Bool, true, false, cond, ap, sym}
-use Rattle.std.proofs.Common.{append-nil, append_assoc, arith}
-use Rattle.std.specs.Prelude.{filter}
-use Rattle.std.specs.List.{range_with_len}
-use Rattle.ta_base.specs.Masks.{has_bit}
-use Rattle.ta_base.proofs.Lists.{piece_written}
-use Rattle.std.proofs.lemmas.Bool.{eqb-true, false_from_ne_true}
-use Rattle.ta_automaton.specs.declared.automaton.Automaton.{Automaton}
-use Rattle.ta_report.specs.Show.{amount_text, each, many, mask_number, place_name}
+use Rattle.ta_report.proofs.Common.{ℕ, ℤ, suc, unsigned_abs, ◌==◌, [], decimal, ◌≡◌, ◌<◌, ◌≤◌, ◌+◌, ◌-◌, ◌∙◌, List, ◌∷◌, ◌++◌, Bool, true, false, cond, ap, sym}
+use Rattle.ta_report.proofs.Common.{append-nil, append_assoc, arith, filter, range_with_len, has_bit, piece_written, eqb-true, Automaton, amount_text, each}
+use Rattle.ta_report.proofs.Common.{many, mask_number, place_name}
+use Rattle.std.proofs.lemmas.Bool.{false_from_ne_true}
 
 -- the numbers of a mask from one on
 abbrev pub left_of : ℕ → ℕ → List ℕ

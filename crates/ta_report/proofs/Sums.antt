@@ -1,19 +1,12 @@
 -- A text of a sum is of one sum.
-use Rattle.std.proofs.Common.{ℕ, ℤ, pos, negsuc, suc, unsigned_abs, ◌==◌, ◌⊎◌, inl, inr, IsTrue, ◌<◌, ◌≤◌, ◌^◌, ◌≡◌, ◌∙◌, Bool, true, false, Option, None, Some}
-use Rattle.std.proofs.Common.{List, [], ◌∷◌, ◌++◌, length, ap, sym, refl, arith, codes, decimal, append_assoc, append-nil, lit≤}
-use Rattle.std.specs.Fmt.{signed_decimal}
-use Rattle.std.specs.List.{AllByRecursion}
-use Rattle.std.proofs.lemmas.Bool.{eqb-true}
+use Rattle.ta_report.proofs.Common.{ℕ, ℤ, pos, negsuc, suc, unsigned_abs, ◌==◌, ◌⊎◌, inl, inr, IsTrue, ◌<◌, ◌≤◌, ◌^◌, ◌≡◌, ◌∙◌, Bool, true, false, Option, None}
+use Rattle.ta_report.proofs.Common.{Some, List, [], ◌∷◌, ◌++◌, length, ap, sym, refl, arith, codes, decimal, append_assoc, append-nil, lit≤, signed_decimal}
+use Rattle.ta_report.proofs.Common.{AllByRecursion, eqb-true, append_cancel_left, LARGEST_NUMBER, Avoids, is_word, avoids-append, first_byte, tails, heads}
+use Rattle.ta_report.proofs.Common.{decimal_avoids, number_other, number_same, each_get_or, Name, Automaton, each, many, first_sign, first_text, next_sign}
+use Rattle.ta_report.proofs.Common.{term_text, constant_text, summands_text, place_name}
 use Rattle.std.proofs.lemmas.Bool.Decides.{nat_tests}
-use Rattle.std.proofs.lemmas.List.{append_cancel_left}
-use Rattle.ta_base.specs.declared.limits.TheConstants.{LARGEST_NUMBER}
-use Rattle.ta_base.specs.Bytes.{Avoids, BeginsByLetter, is_letter, is_word}
-use Rattle.ta_base.proofs.Lists.{avoids-append, first_byte, tails, heads}
-use Rattle.ta_base.proofs.DecimalDigits.{decimal_avoids, decimal_same, number_other, number_same}
-use Rattle.ta_base.proofs.Each.{each_get_or}
-use Rattle.ta_automaton.specs.Names.{Name}
-use Rattle.ta_automaton.specs.declared.automaton.Automaton.{Automaton}
-use Rattle.ta_report.specs.Show.{each, many, first_sign, first_text, next_sign, term_text, constant_text, summands_text, place_name}
+use Rattle.ta_base.specs.Bytes.{BeginsByLetter, is_letter}
+use Rattle.ta_base.proofs.DecimalDigits.{decimal_same}
 use Rattle.ta_report.proofs.Tells.{name_avoids, no_minus, numbered_name, signed_same}
 
 -- automata with the same names of places

@@ -1,8 +1,8 @@
 -- What a report, or that of `rest`, tells, in either form, is so of its verdicts.
 use Rattle.ta_report.proofs.Common.{ℕ, ◌≡◌, Bool, true, false, List, slice_get, Some, sym, ◌∙◌, subst, AllByRecursion, File, Pattern, Pick, entry_of, run_text}
-use Rattle.ta_report.proofs.Common.{ReportSample, Verdict, Safe, Unsafe, SampleFits, VerdictFits}
+use Rattle.ta_report.proofs.Common.{ReportSample, Verdict, Safe, Unsafe, SampleFits, VerdictFits, TellsSafe, TellsUnsafe, report_of}
 use Rattle.ta_replay.specs.declared.run.Run.{Run as RunOf}
-use Rattle.ta_report.specs.Telling.{TellsRun, TellsSafe, TellsUnsafe, report_of}
+use Rattle.ta_report.specs.Telling.{TellsRun}
 use Rattle.ta_report.proofs.JsonSayings.{json_runs, json_safe, json_unsafe}
 use Rattle.ta_report.proofs.Printed.{printed_rest_safe, printed_rest_unsafe, printed_runs, printed_safe, printed_unsafe, runs_printed}
 

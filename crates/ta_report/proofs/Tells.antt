@@ -1,26 +1,18 @@
 -- A text of a file is of one file.
-use Rattle.std.proofs.Common.{codes, ℕ, ℤ, pos, negsuc, zero, suc, unsigned_abs, ◌+◌, ◌<◌, ◌≤◌, ◌^◌, ◌≡◌, ◌∙◌, List, [], ◌∷◌, ◌++◌, length, Bool, true, false}
-use Rattle.std.proofs.Common.{cond, ap, sym, refl, subst, arith, decimal, append_assoc, lit≤, Some, inl, inr, get_or}
-use Rattle.std.specs.Prelude.{filter}
-use Rattle.std.specs.Fmt.{signed_decimal}
+use Rattle.ta_report.proofs.Common.{codes, ℕ, ℤ, pos, negsuc, zero, suc, unsigned_abs, ◌+◌, ◌<◌, ◌≤◌, ◌^◌, ◌≡◌, ◌∙◌, List, [], ◌∷◌, ◌++◌, length, Bool, true}
+use Rattle.ta_report.proofs.Common.{false, cond, ap, sym, refl, subst, arith, decimal, append_assoc, lit≤, Some, inl, inr, get_or, filter, signed_decimal}
+use Rattle.ta_report.proofs.Common.{AllByRecursion, range_with_len, append_cancel_left, Avoids, Distinct, In, has_bit, first_byte, tails, heads, number_same}
+use Rattle.ta_report.proofs.Common.{decimal_avoids, each_get_or, word_avoids, is_word, each, numbered, mask_number, mask_text, name_text, name_at, Name}
 use Rattle.std.specs.Char.{is_ascii_digit}
-use Rattle.std.specs.List.{AllByRecursion, range_with_len}
-use Rattle.std.proofs.lemmas.List.{append_cancel_left}
 use Rattle.std.proofs.lemmas.Option.{slice_get-get_or}
 use Rattle.ta_base.specs.Decimals.{BeginsNoDigit}
-use Rattle.ta_base.specs.Bytes.{Avoids}
-use Rattle.ta_base.specs.Lists.{Distinct}
-use Rattle.ta_base.specs.Masks.{In, has_bit}
-use Rattle.ta_base.proofs.Lists.{first_byte, tails, heads}
-use Rattle.ta_base.proofs.DecimalDigits.{number_same, number_unique, decimal_avoids}
-use Rattle.ta_base.proofs.Each.{distinct_at, each_get_or, word_avoids}
+use Rattle.ta_base.proofs.DecimalDigits.{number_unique}
+use Rattle.ta_base.proofs.Each.{distinct_at}
 use Rattle.ta_base.proofs.Bits.{same_mask, has_above}
 use Rattle.ta_base.proofs.Members.{In-filter, in_filter, in_get_or}
-use Rattle.ta_base.specs.Bytes.{is_word}
 use Rattle.std.proofs.lemmas.Bool.{cases_lt}
 use Rattle.std.proofs.lemmas.List.FromFn.{get_or-range_with_len, length-range_with_len}
-use Rattle.ta_report.specs.Show.{each, numbered, listed, mask_number, mask_text, name_text, name_at}
-use Rattle.ta_automaton.specs.Names.{Name}
+use Rattle.ta_report.specs.Show.{listed}
 
 -- texts of items, with what stands behind them, are of one item
 abbrev pub Tells : {X : Type 0} → (X → List ℕ) → (X → List ℕ) → (X → Type 0) → (X → Type 0) → Type 0

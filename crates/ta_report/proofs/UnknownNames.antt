@@ -1,25 +1,19 @@
 -- Each unknown of a node without facts has its name.
-use Rattle.std.proofs.Common.{ℕ, zero, suc, ◌+◌, ◌*◌, ◌<◌, ◌≡◌, ◌∙◌, List, [], ◌∷◌, ◌++◌, length}
-use Rattle.std.proofs.Common.{map, slice_get, Some, Bool, cond, ap, sym, refl, subst, arith, inl, inr, append_assoc}
-use Rattle.std.specs.Prelude.{flat_map}
-use Rattle.std.specs.List.{range_with_len}
-use Rattle.std.proofs.lemmas.List.{length-append, length-map}
+use Rattle.ta_report.proofs.Common.{ℕ, zero, suc, ◌+◌, ◌<◌, ◌≡◌, ◌∙◌, List, [], ◌∷◌, ◌++◌, length, map, slice_get, Some, Bool, cond, ap, sym, refl, subst}
+use Rattle.ta_report.proofs.Common.{arith, inl, inr, append_assoc, flat_map, range_with_len, length-map, eqb_tells, same_Some, In, Automaton, Event, Pattern}
+use Rattle.ta_report.proofs.Common.{fired_name, fired_names, start_name, unknown_names}
+use Rattle.std.proofs.Common.{◌*◌}
+use Rattle.std.proofs.lemmas.List.{length-append}
 use Rattle.std.proofs.lemmas.List.FromFn.{length-map-range_with_len}
-use Rattle.std.proofs.lemmas.Bool.Decides.{eqb_tells}
-use Rattle.std.proofs.lemmas.Option.{none-some, same_Some, slice_get_within}
+use Rattle.std.proofs.lemmas.Option.{none-some, slice_get_within}
 use Rattle.ta_base.specs.Lists.{Pairwise}
-use Rattle.ta_base.specs.Masks.{In}
 use Rattle.ta_base.proofs.Lists.{get_map, slice_get_before, slice_get_right}
-use Rattle.ta_automaton.specs.declared.automaton.Automaton.{Automaton}
-use Rattle.ta_automaton.specs.declared.pattern.Event.{Event}
-use Rattle.ta_automaton.specs.declared.pattern.Pattern.{Pattern}
 use Rattle.ta_encode.specs.Unknowns.{start_locations}
 use Rattle.ta_encode.specs.declared.meaning.Meaning.{Meaning}
 use Rattle.ta_encode.specs.declared.meaning.Meaning.TheVariants.{Parameter, Start, Count, Single}
 use Rattle.ta_moments.specs.Facts.{moving_rules}
 use Rattle.ta_moments.specs.Forms.{unknown_form}
 use Rattle.ta_moments.specs.Moments.{Vector, nothing_fired}
-use Rattle.ta_report.specs.Unknowns.{fired_name, fired_names, start_name, unknown_names}
 use Rattle.ta_report.specs.Named.{FiredNamed, UnknownsAreNamed}
 unfoldable use Rattle.ta_encode.specs.Unknowns.{start_meanings}
 unfoldable use Rattle.ta_moments.specs.Moments.{fresh}

@@ -1,9 +1,8 @@
 -- how many moves come
+use Rattle.ta_rest.proofs.Common.{negsuc, number_at}
 use Rattle.ta_rest.proofs.FairCommon.{◌≡◌, ◌≢◌, inl, inr, ℕ, ℤ, ◌-◌, ◌≤◌, pos, ◌*ℤ◌, List, [], length, not, arith, ints, ap, ◌∙◌, refl, slice_get, Some}
 use Rattle.ta_rest.proofs.FairCommon.{cond-true, eqb_tells, Automaton, Rule, Config, Initial, Run, LoopsAlone, is_move, value_of}
 unfoldable use Rattle.ta_rest.proofs.FairCommon.{moves_count}
-use Rattle.std.specs.Prelude.{negsuc}
-use Rattle.ta_automaton.specs.Runs.{number_at}
 use Rattle.ta_rest.proofs.Moving.{moves_bounded}
 use Rattle.ta_rest.proofs.Prefixes.{weight}
 

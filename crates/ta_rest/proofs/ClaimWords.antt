@@ -1,14 +1,12 @@
 -- the words of a claim, whichever claim it is
-use Rattle.ta_automaton.specs.Narrow.{IsNarrow}
+use Rattle.ta_rest.proofs.Common.{IsNarrow, BoundsWithin, prefix_fewer}
 use Rattle.ta_rest.proofs.ClaimCommon.{◌≡◌, ℕ, ◌^◌, ◌≤◌, List, [], length, slice_get, Some, arith, refl, Automaton, File, Pattern, Element, LegalWord}
 use Rattle.ta_rest.proofs.ClaimCommon.{is_complete, Comes, Pending, IsSmall, System, PatternOver, SystemAt, all_starts, meanings, few_rows, few_unknowns}
 use Rattle.ta_rest.proofs.ClaimCommon.{small_of, search_for, Claim, Safe, RestSafe, ap, sym, Bool, true, false, pattern_search, rest_search, children, ◌∷◌}
 use Rattle.ta_rest.proofs.ClaimCommon.{Extend, TellsMayAsk, not}
-use Rattle.ta_encode.specs.Lines.{BoundsWithin}
 use Rattle.std.specs.Option.{is_some}
 use Rattle.ta_encode.specs.Search.{Search}
 use Rattle.ta_encode.proofs.Asking.{IsOfWords, asked_at_open, none_at_complete}
-use Rattle.ta_encode.proofs.Prefixes.{prefix_fewer}
 use Rattle.ta_encode.proofs.SystemsExist.{word_system}
 use Rattle.ta_rest.proofs.RestSystems.{rest_word_system}
 use Rattle.ta_rest.proofs.PatternWords.{comes_legal}

@@ -1,8 +1,7 @@
 -- the proofs of a claim show it
+use Rattle.ta_rest.proofs.Common.{after_earlier, pattern_within, ComeAfterEarlier}
 use Rattle.ta_rest.proofs.ClaimCommon.{◌≡◌, ℕ, ◌+◌, length, slice_get, Some, File, Pattern, ProofsShowClaims, Safe, RestSafe}
-use Rattle.ta_automaton.proofs.Thresholds.{after_earlier, pattern_within}
 use Rattle.ta_encode.proofs.Theorems.{safety}
-use Rattle.ta_rest.specs.Rest.{ComeAfterEarlier}
 use Rattle.ta_rest.proofs.Resting.{refuted_rests}
 
 -- the events of a file's pattern come after events of lower numbers alone

@@ -4,6 +4,7 @@
 -- moves between locations. Behind the last one nothing changes any more. If some rule had to move in that configuration, it would
 -- have to from then on for ever and never fire, which no fair run allows. So the configuration is at quiet rest, and the first
 -- positions of the run are a run that comes to it.
+use Rattle.ta_rest.proofs.Common.{after_earlier, pattern_within}
 use Rattle.ta_rest.proofs.FairCommon.{◌≡◌, ◌⊎◌, inl, inr, ℕ, zero, suc, ◌+◌, ◌-◌, ◌<◌, ◌≤◌, pos, List, [], ◌∷◌, length, cond, eqb, not, true, false, arith}
 use Rattle.ta_rest.proofs.FairCommon.{ints, sym, ap, ◌∙◌, refl, subst, slice_get, get_or, Option, Some, None, cond-false, cond-true, eqb_tells}
 use Rattle.ta_rest.proofs.FairCommon.{same_number_lists, same_Some, slice_get-get_or, slice_get_within, nat_tests, Automaton, Rule, Pattern, Config, Step}
@@ -11,7 +12,6 @@ use Rattle.ta_rest.proofs.FairCommon.{LoopsAlone, LoopsPure, ComeAfterEarlier, i
 use Rattle.ta_rest.proofs.FairCommon.{CalmRunsRest, FairRunsComeToRest, FairRunsOfFiles, RunsBecomeCalm, MustMove, QuietRest, QuietRestOccurs}
 unfoldable use Rattle.ta_rest.proofs.FairCommon.{moves_count}
 use Rattle.ta_rest.proofs.Going.{goes_on}
-use Rattle.ta_automaton.proofs.Thresholds.{after_earlier, pattern_within}
 use Rattle.ta_scope.proofs.Judging.{loops_pure}
 use Rattle.ta_rest.proofs.Bounds.{few_moves, weighs}
 use Rattle.ta_rest.proofs.Prefixes.{rules_from, later_from, steps_from, found_first, each_from, rises, weight, moves_next, moves_rise}

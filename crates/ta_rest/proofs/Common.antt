@@ -8,12 +8,12 @@ pub use Rattle.std.proofs.lemmas.Bool.Decides.{eqb_tells, nat_tests}
 pub use Rattle.std.proofs.lemmas.Int.{ints}
 pub use Rattle.std.proofs.lemmas.Option.{same_Some, slice_get-get_or, slice_get_read, slice_get_within}
 pub use Rattle.std.specs.List.{AllByRecursion, range_with_len}
-pub use Rattle.std.specs.Prelude.{filter}
+pub use Rattle.std.specs.Prelude.{filter, negsuc}
 pub use Rattle.ta_automaton.proofs.Moves.{Fits, value_at-location}
-pub use Rattle.ta_automaton.proofs.Thresholds.{from_within, to_within}
+pub use Rattle.ta_automaton.proofs.Thresholds.{from_within, to_within, after_earlier, pattern_within}
 pub use Rattle.ta_automaton.proofs.Trails.{run_length}
 pub use Rattle.ta_automaton.specs.Places.{Whole, location_place}
-pub use Rattle.ta_automaton.specs.Runs.{Config, Holds, Initial, MaskedHold, Move, Occurs, Step, Steps, Walk, value_at}
+pub use Rattle.ta_automaton.specs.Runs.{Config, Holds, Initial, MaskedHold, Move, Occurs, Step, Steps, Walk, value_at, number_at}
 pub use Rattle.ta_automaton.specs.declared.automaton.Automaton.{Automaton}
 pub use Rattle.ta_automaton.specs.declared.condition.Comparison.{Comparison}
 pub use Rattle.ta_automaton.specs.declared.condition.Condition.{Condition}
@@ -49,3 +49,13 @@ pub use Rattle.ta_scope.specs.LongerCycles.{LoopsAlone}
 pub use Rattle.ta_words.specs.Words.{LegalWord, follows, has_fallen, has_rise, is_complete}
 unfoldable pub use Rattle.ta_words.specs.Words.{children, has_event}
 pub use Rattle.ta_words.specs.declared.element.Element.{Element}
+pub use Rattle.ta_automaton.proofs.Fire.{fire, fire_step}
+pub use Rattle.ta_automaton.specs.Narrow.{IsNarrow}
+pub use Rattle.ta_automaton.specs.declared.file.File.{File}
+pub use Rattle.ta_base.proofs.Integers.{is_negative, negative_false, negative_true}
+pub use Rattle.ta_encode.proofs.Prefixes.{prefix_fewer}
+pub use Rattle.ta_encode.specs.Asking.{ask_node}
+pub use Rattle.ta_encode.specs.Lines.{BoundsWithin}
+pub use Rattle.ta_encode.specs.declared.ask.Ask.{Ask}
+pub use Rattle.ta_linear.proofs.TermLemmas.{terms_value-same}
+pub use Rattle.ta_rest.specs.Trees.{search_of_claim}

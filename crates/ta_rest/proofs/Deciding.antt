@@ -2,8 +2,7 @@
 use Rattle.ta_rest.proofs.Common.{◌≡◌, ◌≢◌, ◌⊎◌, inl, inr, ℕ, zero, suc, ◌<◌, List, length, IsBitSet, arith, refl, subst, sym, slice_get, get_or, Option, Some}
 use Rattle.ta_rest.proofs.Common.{None, cases_Bool, cases_lt, eqb_tells, ints, same_Some, slice_get_within, Automaton, Rule, Config, Row, value_at, value_of}
 use Rattle.ta_rest.proofs.Common.{pos, ◌<ℤ◌, bit_set, bit_true, has_bit, MaskedQuietlyHold, MustMove, OneFails, QuietlyHolds, QuietRest, QuietRestIsStuck}
-use Rattle.ta_rest.proofs.Common.{Stuck, without}
-use Rattle.ta_base.proofs.Integers.{is_negative, negative_false, negative_true}
+use Rattle.ta_rest.proofs.Common.{Stuck, without, is_negative, negative_false, negative_true}
 
 -- where each number has one of two properties, all below another have the first, or one has the second
 each_or_one : (P Q : ℕ → Type 0) (n : ℕ) → ((i : ℕ) → P i ⊎ Q i) → ((i : ℕ) → i < n → P i) ⊎ ((i : ℕ) × Q i)

@@ -3,13 +3,13 @@ use Rattle.ta_rest.proofs.Common.{◌≡◌, inl, inr, ℕ, suc, ◌+◌, ◌^�
 use Rattle.ta_rest.proofs.Common.{refl, subst, slice_get, get_or, eqb, Some, false≢true, AllByRecursion, push_cases, Comparison, Condition, Event, Pattern}
 use Rattle.ta_rest.proofs.Common.{Distinct, EachFrom, ComesLast, Endings, FewEvents, IsEnding, RestAdded, events_below, rest_name}
 use Rattle.ta_syntax.specs.declared.tokens.Mark.{Mark}
-use Rattle.ta_syntax.specs.declared.tokens.Mark.TheVariants as mark
 use Rattle.ta_syntax.specs.Kinds.{mark_bytes}
 use Rattle.ta_automaton.specs.Forms.{ConditionOver, RowOver}
 use Rattle.ta_automaton.specs.Names.{Name}
 use Rattle.ta_automaton.specs.Patterns.{EventWithin, PatternWithin, PatternsShape, event_name, pattern_name}
 use Rattle.ta_rest.proofs.EndingLaws.{ending_has}
 use Rattle.ta_base.proofs.Bits.{ones_below}
+use Rattle.ta_syntax.specs.declared.tokens.Mark.TheVariants as mark
 
 no_mark : (m : Mark) → mark_bytes m ≡ rest_name → ⊥
 no_mark mark.Rule e = false≢true (ap (λ (xs : List ℕ). eqb (get_or xs 1 0) 101) e)

@@ -1,11 +1,11 @@
 -- every run goes on to quiet rest, and so to a fair run without end
+use Rattle.ta_rest.proofs.Common.{slice_get_left, fire, fire_step}
 use Rattle.ta_rest.proofs.FairCommon.{◌≡◌, inl, inr, ℕ, zero, suc, ◌+◌, ◌<◌, ◌≤◌, List, [], ◌∷◌, ◌++◌, length, arith, sym, ◌∙◌, refl, subst, slice_get, get_or}
 use Rattle.ta_rest.proofs.FairCommon.{Some, run_length, same_Some, slice_get-get_or, slice_get_within, Automaton, Config, Run, Step, Steps, Whole, MaskedHold}
 use Rattle.ta_rest.proofs.FairCommon.{NoneSubtracted, QuietRest, RunsGoOnFairly}
 unfoldable use Rattle.ta_rest.proofs.FairCommon.{moves_count}
 use Rattle.std.proofs.lemmas.List.{length-append}
-use Rattle.ta_base.proofs.Lists.{slice_get_before, slice_get_left}
-use Rattle.ta_automaton.proofs.Fire.{fire, fire_step}
+use Rattle.ta_base.proofs.Lists.{slice_get_before}
 use Rattle.ta_rest.proofs.Resting.{whole_at}
 use Rattle.ta_rest.proofs.Deciding.{rest_or_moves}
 use Rattle.ta_rest.proofs.Going.{staying, staying_fair}

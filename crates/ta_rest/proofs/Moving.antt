@@ -1,9 +1,8 @@
 -- the heights of the locations of all processes together fall with each step between locations
 use Rattle.ta_rest.proofs.Common.{◌≡◌, inl, inr, ℕ, ◌+◌, ◌*◌, ◌-◌, ◌≤◌, pos, ◌*ℤ◌, ◌≤ℤ◌, List, [], ◌∷◌, length, sum, eqb, cond, not, arith, sym, ap, ◌∙◌, subst}
-use Rattle.ta_rest.proofs.Common.{slice_get, ints, eqb_tells, Automaton, Config, Step, Steps, from_within, to_within, LoopsAlone}
+use Rattle.ta_rest.proofs.Common.{slice_get, ints, eqb_tells, Automaton, Config, Step, Steps, from_within, to_within, LoopsAlone, cond-false, cond-true}
 use Rattle.ta_base.proofs.Sums.{weighted_sum-most, weighted_sum-moved}
 unfoldable use Rattle.ta_base.proofs.Sums.{weighted_sum}
-use Rattle.std.proofs.lemmas.Bool.{cond-false, cond-true}
 use Rattle.std.proofs.Math.IntN.{pos-*ℤ-pos}
 use Rattle.ta_rest.specs.Moves.{MovesAreBounded, is_move, moves_count}
 use Rattle.ta_rest.proofs.Heights.{height_of, height_below, height_falls}

@@ -1,5 +1,5 @@
 -- the words of a pattern
-use Rattle.ta_automaton.specs.Narrow.{IsNarrow}
+use Rattle.ta_rest.proofs.Common.{IsNarrow, prefix_fewer}
 use Rattle.ta_rest.proofs.ClaimCommon.{◌≡◌, inl, inr, ℕ, zero, suc, ◌+◌, ◌-◌, ◌^◌, ◌<◌, ◌≤◌, List, [], ◌∷◌, ◌++◌, length, map, slice_get, Some, None, arith}
 use Rattle.ta_rest.proofs.ClaimCommon.{sym, ap, ◌∙◌, refl, subst, length-append, lit<, filter, slice_get-map, slice_get_within, In, range_with_len, numbers_end}
 use Rattle.ta_rest.proofs.ClaimCommon.{slice_numbers, Automaton, Pattern, Element, Event, Rise, Fall, LegalWord, LegalUnder, children, is_complete, is_ready}
@@ -7,7 +7,6 @@ use Rattle.ta_rest.proofs.ClaimCommon.{is_standing, may_rise, under_none, passed
 use Rattle.ta_rest.proofs.ClaimCommon.{Extend, Option, AnswerIs, PatternOver}
 use Rattle.std.proofs.Math.Nat.{pow-le-pow_right}
 use Rattle.ta_encode.proofs.Asking.{answers_in, children_answer}
-use Rattle.ta_encode.proofs.Prefixes.{prefix_fewer}
 use Rattle.ta_base.proofs.Lists.{unless_most}
 
 -- a word has few children

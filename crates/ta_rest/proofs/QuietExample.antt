@@ -2,16 +2,17 @@
 use Rattle.ta_rest.proofs.Common.{◌≡◌, ◌≤◌, ◌≤ℤ◌, ℕ, ℤ, zero, suc, pos, [], ◌∷◌, List, length, All, IsBitSet, arith, ints, refl, sym, ap, subst, slice_get}
 use Rattle.ta_rest.proofs.Common.{get_or, Some, same_Some, slice_get-get_or, bit_set, no_bit, Comparison, Condition, value_at-location, Automaton, Event}
 use Rattle.ta_rest.proofs.Common.{Pattern, Rule, true, cond, eqb, eqb_tells, cond-true, cond-false, inl, inr, Config, Initial, Occurs, Row, RowHolds, Whole}
-use Rattle.ta_rest.proofs.Common.{MaskedHold, value_at, ComesTo, AtRest, RestOccurs, NoneSubtracted, QuietAlone, QuietRest, MustMove, coefficient}
-use Rattle.std.specs.Prelude.{negsuc, Contains}
+use Rattle.ta_rest.proofs.Common.{MaskedHold, value_at, ComesTo, AtRest, RestOccurs, NoneSubtracted, QuietAlone, QuietRest, MustMove, coefficient, negsuc}
+use Rattle.ta_rest.proofs.Common.{number_at, fire, fire_step}
+use Rattle.std.specs.Prelude.{Contains}
 use Rattle.std.proofs.lemmas.List.Elements.{All-cons, All-nil}
 use Rattle.ta_base.proofs.Lists.{letters_apart}
 unfoldable use Rattle.ta_base.specs.Masks.{has_bit}
 use Rattle.ta_linear.specs.Terms.{IsTerm}
 use Rattle.ta_linear.specs.declared.form.Form.{Form}
 use Rattle.ta_automaton.specs.Forms.{FormOver}
-use Rattle.ta_automaton.specs.Runs.{HappensAt, HoldsAt, number_at}
-use Rattle.ta_automaton.proofs.Fire.{fire, fire_step, fits_whole}
+use Rattle.ta_automaton.specs.Runs.{HappensAt, HoldsAt}
+use Rattle.ta_automaton.proofs.Fire.{fits_whole}
 use Rattle.ta_automaton.proofs.Moves.{value_at-parameter}
 use Rattle.ta_automaton.proofs.RunLaws.{parameters_stay}
 use Rattle.ta_automaton.proofs.ShortNames.{letter_name}

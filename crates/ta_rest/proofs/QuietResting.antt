@@ -3,11 +3,9 @@ use Rattle.ta_rest.proofs.Common.{Bool, true, false, not, ◌||◌, cases_Bool, 
 use Rattle.ta_rest.proofs.Common.{ints, sym, ap, ◌∙◌, refl, subst, slice_get, Some, cond-false, cond-true, eq-eqb, ne_eqb, eqb_tells, same_Some, Automaton}
 use Rattle.ta_rest.proofs.Common.{Rule, Pattern, Config, MaskedHold, Whole, coefficient, RowHolds, Row, value_at, AtRest, ComesTo, MustMove, NoneSubtracted}
 use Rattle.ta_rest.proofs.Common.{QuietRest, LoudTermsAreLeft, is_silent, loud_terms, without, QuietRestIsWeaker, QuietSafeIsStronger, EndingsQuietRestAlike}
-use Rattle.ta_rest.proofs.Common.{RestIsQuietRest, RestSafeIsQuietRestSafe}
+use Rattle.ta_rest.proofs.Common.{RestIsQuietRest, RestSafeIsQuietRestSafe, terms_value-same, fire, fire_step}
 use Rattle.ta_base.proofs.Integers.{expand, mul-ge-zero}
 use Rattle.ta_linear.specs.Values.{terms_value}
-use Rattle.ta_linear.proofs.TermLemmas.{terms_value-same}
-use Rattle.ta_automaton.proofs.Fire.{fire, fire_step}
 use Rattle.ta_rest.proofs.Resting.{whole_at}
 use Rattle.ta_rest.proofs.EndingLaws.{endings_alike}
 

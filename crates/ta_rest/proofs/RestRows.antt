@@ -1,5 +1,5 @@
 -- words of rest are words under no pairs, and the rows of their ends
-use Rattle.ta_automaton.specs.Narrow.{IsNarrow}
+use Rattle.ta_rest.proofs.Common.{IsNarrow, LinearRow, counter_row, guard_rows, negated, opposite, word_rows}
 use Rattle.ta_rest.proofs.ClaimCommon.{◌≡◌, inl, inr, ℕ, ◌≤◌, List, [], ◌∷◌, ◌++◌, length, map, cond, Bool, true, false, not, Option, Some, None, arith, sym}
 use Rattle.ta_rest.proofs.ClaimCommon.{ap, ◌∙◌, subst, length-append, filter, Automaton, Pattern, has_bit, range_with_len, Element, LegalWord, has_rise}
 use Rattle.ta_rest.proofs.ClaimCommon.{is_complete, pattern_search, Comes, Pending, Extend, AnswerIs, end_rows, must_be_left, rest_rows, rest_search, count_few}
@@ -7,7 +7,7 @@ use Rattle.ta_rest.proofs.ClaimCommon.{filter_numbers_same, System, AreRowsOf, S
 use Rattle.std.proofs.lemmas.List.{length-map}
 use Rattle.ta_encode.specs.declared.ending.WordEnd.{WordEnd}
 use Rattle.ta_encode.specs.Ends.{EndedSystem, ended_rows}
-use Rattle.ta_encode.specs.System.{LinearRow, bound_row, counter_row, guard_rows, negated, opposite, word_rows}
+use Rattle.ta_encode.specs.System.{bound_row}
 use Rattle.ta_encode.proofs.Asking.{answers_moved}
 use Rattle.ta_encode.proofs.Ended.{guards_same}
 use Rattle.ta_rest.specs.RestEnds.{IsRestEnd}

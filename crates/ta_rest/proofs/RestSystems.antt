@@ -1,15 +1,12 @@
 -- The numbers of the rows of rest are in range, so each word of rest has a system.
 use Rattle.ta_rest.proofs.Common.{◌≡◌, ℕ, ◌≤◌, ◌^◌, Bool, List, [], length, map, filter, cond, not, range_with_len, slice_get, Some, Automaton, Pattern}
 use Rattle.ta_rest.proofs.Common.{Element, has_rise, is_complete, opposite, negated, counter_row, guard_rows, word_rows, meanings, end_rows, must_be_left}
-use Rattle.ta_rest.proofs.Common.{rest_rows, rest_search}
+use Rattle.ta_rest.proofs.Common.{rest_rows, rest_search, File, pattern_within, BoundsWithin}
 use Rattle.std.proofs.lemmas.Bool.{cond_both}
 use Rattle.ta_base.proofs.Each.{each_append, each_map_all}
 use Rattle.ta_linear.specs.declared.row.System.{System}
-use Rattle.ta_automaton.specs.declared.file.File.{File}
-use Rattle.ta_automaton.proofs.Thresholds.{pattern_within}
 use Rattle.ta_encode.specs.Code.{SystemAt}
 use Rattle.ta_encode.specs.Inside.Lines.{SmallCondition, SmallEvents}
-use Rattle.ta_encode.specs.Lines.{BoundsWithin}
 use Rattle.ta_encode.specs.Search.{Pending}
 use Rattle.ta_encode.proofs.Drafts.{events_small, start_small as small_at_start}
 use Rattle.ta_encode.proofs.SystemsExist.{AllMild, Mild, counter_mild, negated_rises_mild, opposite_mild, system_exists, word_mild}

@@ -11,11 +11,10 @@ use Rattle.ta_rest.proofs.Common.{Whole, location_place, Config, MaskedHold, Ste
 use Rattle.ta_rest.proofs.Common.{has_fallen, has_rise, is_complete, EndsAt, LinearRow, AllHold, counter_row, guard_rows, negated, opposite, word_rows}
 use Rattle.ta_rest.proofs.Common.{meanings, AllHold-append, AllHold-left, Moment, RowFails, guards_fail, opposite_value, SolvesAlong, extend, none_along}
 use Rattle.ta_rest.proofs.Common.{prefix_legal, prefix_rows, take_apart, AtRest, end_rows, leads_out, must_be_left, rest_rows, rest_search, RestingRunsSolve}
-use Rattle.ta_rest.proofs.Common.{RefutedEndingsRest, RefutedEndingsShow, eqb-true}
+use Rattle.ta_rest.proofs.Common.{RefutedEndingsRest, RefutedEndingsShow, eqb-true, is_negative, negative_false, negative_true, fire, fire_step}
 use Rattle.ta_encode.proofs.Asking.{answers_each, closed}
 use Rattle.std.proofs.lemmas.List.{append-nil}
-use Rattle.ta_base.proofs.Integers.{is_negative, negative_false, negative_true}
-use Rattle.ta_automaton.proofs.Fire.{fire, fire_step, step_whole}
+use Rattle.ta_automaton.proofs.Fire.{step_whole}
 use Rattle.ta_implied.specs.Implied.{Good}
 use Rattle.ta_implied.proofs.Chains.{nothing_leads}
 use Rattle.ta_encode.specs.declared.meaning.Meaning.{Meaning}

@@ -7,13 +7,11 @@ use Rattle.ta_rest.proofs.Common.{range_with_len, In, Whole, location_place, Con
 use Rattle.ta_rest.proofs.Common.{children, follows, has_event, has_fallen, has_rise, is_complete, RunsThrough, WordFires, position_in, steps_of, AllHold}
 use Rattle.ta_rest.proofs.Common.{counter_row, guard_rows, negated, opposite, row_value, word_rows, meanings, start_meanings, AllHold-left, RowFails}
 use Rattle.ta_rest.proofs.Common.{opposite_value, take_apart, ComesLast, events_below, EndsOfSolutionsRest, SolutionsComeToRest, StepsOfSolutionsRest, AtRest}
-use Rattle.ta_rest.proofs.Common.{end_rows, leads_out, must_be_left, rest_rows, Event as PatternEvent}
+use Rattle.ta_rest.proofs.Common.{end_rows, leads_out, must_be_left, rest_rows, Event as PatternEvent, terms_value-same, prefix_fewer}
 use Rattle.std.proofs.lemmas.Nat.Bits.{bit_at_ones}
 use Rattle.ta_base.proofs.Ranges.{In-numbers, at_index}
-use Rattle.ta_linear.proofs.TermLemmas.{terms_value-same}
 use Rattle.ta_words.specs.declared.element.Element.TheVariants.{Event, Rise, Fall}
 use Rattle.ta_encode.proofs.Fallen.{fallen_fail, guard_fails}
-use Rattle.ta_encode.proofs.Prefixes.{prefix_fewer}
 use Rattle.ta_encode.proofs.Realize.{solution_end, solution_runs, some_firings}
 use Rattle.ta_encode.proofs.Values.{AllHold-right, event_ready, place_value}
 use Rattle.ta_rest.proofs.EndingLaws.{positions_within}

@@ -1,11 +1,10 @@
 -- lists of the unknowns that don't belong to columns
-use Rattle.std.proofs.Common.{ℕ, List, [], ◌∷◌, ◌++◌, ◌≡◌, ◌<◌, ◌≤◌, ◌+◌, ◌⊎◌, ◌∙◌, inl, inr, length, get_or, set, arith, refl, subst}
+use Rattle.ta_revised.proofs.Common.{ℕ, List, [], ◌∷◌, ◌++◌, ◌≡◌, ◌<◌, ◌≤◌, ◌+◌, ◌∙◌, inl, inr, length, get_or, set, arith, refl, subst, cases_lt}
+use Rattle.ta_revised.proofs.Common.{get_or_append_left, get_or_default, length-append, length-set, All-push, IsColumn, ListsBasic, UnknownRow}
+use Rattle.std.proofs.Common.{◌⊎◌}
 use Rattle.std.specs.Prelude.{All}
-use Rattle.std.proofs.lemmas.Bool.{cases_lt}
-use Rattle.std.proofs.lemmas.List.{get_or_append_left, get_or_push, get_or-set_other, get_or_default, length-append, length-set}
-use Rattle.std.proofs.lemmas.List.Elements.{All-push}
-use Rattle.ta_revised.specs.UnknownRows.{IsColumn, IsIn, ListsBasic}
-use Rattle.ta_revised.specs.declared.unknown_rows.UnknownRow.{UnknownRow}
+use Rattle.std.proofs.lemmas.List.{get_or_push, get_or-set_other}
+use Rattle.ta_revised.specs.UnknownRows.{IsIn}
 
 -- those among the first ones
 pub record ListedBelow (us : List ℕ) (xs : List UnknownRow) (k : ℕ) : Type 0 where

@@ -1,15 +1,11 @@
 -- bounds of rows, and what they keep
-use Rattle.ta_revised.proofs.Common.{◌≡◌, inl, inr, ℕ, ◌<◌, ◌≤◌, ◌+◌, ◌*◌, ◌^◌, List, ◌∷◌, length, map, set, get_or}
-use Rattle.ta_revised.proofs.Common.{arith, sym, refl, ℤ, pos, neg_ℤ, ◌-ℤ◌, ◌*ℤ◌}
-use Rattle.ta_revised.proofs.Common.{◌<ℤ◌, unsigned_abs, get_or-set_same, get_or-set_other, int_div, cases_eq, length-set, All-from_get_or, All-map, All-set}
-use Rattle.ta_revised.proofs.Common.{le_of_dvd, dvd_antisymm, one-dvd, SFits, abs_minus, abs_positive, div-one, product_le, quotient_le, unsigned_abs-neg}
-use Rattle.ta_revised.proofs.Common.{InRange, TableauRow, combine, merged_by, divided, turned, divisor_of, factor_divisor, CombinesInRange}
-use Rattle.ta_revised.proofs.Common.{MergesByInRange, AreBounded, IsBound, CombinesIn16, AllCombineIn16, IsGcd-gcd_of}
-use Rattle.std.proofs.lemmas.Int.{fits_signed_from_abs, ints}
+use Rattle.ta_revised.proofs.Common.{◌≡◌, inl, inr, ℕ, ◌<◌, ◌≤◌, ◌+◌, ◌*◌, ◌^◌, List, ◌∷◌, length, map, set, get_or, arith, sym, refl, ℤ, pos, neg_ℤ, ◌-ℤ◌}
+use Rattle.ta_revised.proofs.Common.{◌*ℤ◌, ◌<ℤ◌, unsigned_abs, get_or-set_same, get_or-set_other, int_div, cases_eq, length-set, All-from_get_or, All-map}
+use Rattle.ta_revised.proofs.Common.{All-set, le_of_dvd, dvd_antisymm, one-dvd, SFits, abs_minus, abs_positive, div-one, product_le, quotient_le}
+use Rattle.ta_revised.proofs.Common.{unsigned_abs-neg, InRange, TableauRow, combine, merged_by, divided, turned, divisor_of, factor_divisor, CombinesInRange}
+use Rattle.ta_revised.proofs.Common.{MergesByInRange, AreBounded, IsBound, CombinesIn16, AllCombineIn16, IsGcd-gcd_of, fits_signed_from_abs, ints}
+use Rattle.ta_revised.proofs.Common.{gcd_with_divides, length-combine, get_or-combine, factors_positive}
 use Rattle.std.specs.Int.{w16}
-use Rattle.ta_dense.proofs.Divide.{gcd_with_divides}
-use Rattle.ta_dense.proofs.PivotLaws.{length-combine, get_or-combine}
-use Rattle.ta_dense.proofs.ReduceFacts.{factors_positive}
 
 pub fits16 : (z : ℤ) (t : ℕ) → unsigned_abs z ≤ t → t < 2 ^ 15 → SFits w16 z
 fits16 z t h k = fits_signed_from_abs w16 z (omega arith)

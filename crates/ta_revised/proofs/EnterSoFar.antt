@@ -1,6 +1,5 @@
 -- the column that enters among the first ones
-use Rattle.std.proofs.Common.{ℕ, List, ◌<◌, length, get_or, pos, ◌<ℤ◌, ◌≤ℤ◌}
-use Rattle.ta_dense.specs.Tableau.{TableauRow, cell_of}
+use Rattle.ta_revised.proofs.Common.{ℕ, List, ◌<◌, length, get_or, pos, ◌<ℤ◌, ◌≤ℤ◌, TableauRow, cell_of}
 
 -- among the columns below k, this one's variable is the least with a positive cell
 pub record EntersBelow (us : List ℕ) (r : TableauRow) (k column : ℕ) : Type 0 where

@@ -1,20 +1,10 @@
 -- the rows of a system hold in a longer one, where its dictionary is grown
-use Rattle.std.proofs.Common.{ℕ, ◌<◌, ◌≤◌, ◌+◌, ◌-◌, ◌≡◌, List, ◌++◌, length, map, get_or, drop, arith, refl, sym, ap, ◌∙◌, subst, ℤ, pos, ◌<ℤ◌, ◌≤ℤ◌, ◌*ℤ◌}
-use Rattle.std.proofs.Common.{inl, inr}
-use Rattle.std.proofs.lemmas.List.{get_or-map, get_or_append_left, length-append, length-map}
-use Rattle.std.proofs.lemmas.Option.{slice_get_cases}
-use Rattle.std.specs.Prelude.{IsSomeAnd, Option, Some, slice_get}
-use Rattle.ta_base.proofs.Integers.{cancel_positive}
+use Rattle.ta_revised.proofs.Common.{ℕ, ◌<◌, ◌≤◌, ◌+◌, ◌-◌, ◌≡◌, List, ◌++◌, length, map, get_or, drop, arith, refl, sym, ap, ◌∙◌, subst, ℤ, pos, ◌<ℤ◌, ◌≤ℤ◌}
+use Rattle.ta_revised.proofs.Common.{◌*ℤ◌, inl, inr, get_or-map, get_or_append_left, length-append, length-map, slice_get_cases, IsSomeAnd, Some, slice_get}
+use Rattle.ta_revised.proofs.Common.{cancel_positive, terms_value, Row, System, zero_filled, Tableau, no_row, row_of, row_value, grown, unit_rows, AreValues}
+use Rattle.ta_revised.proofs.Common.{IsScale, IsRevised, Option}
 use Rattle.ta_base.proofs.Lists.{slice_get_before}
-use Rattle.ta_linear.specs.Values.{terms_value}
-use Rattle.ta_linear.specs.declared.row.Row.{Row}
-use Rattle.ta_linear.specs.declared.row.System.{System}
-use Rattle.ta_dense.specs.Inside.Padded.{zero_filled}
-use Rattle.ta_dense.specs.Tableau.{Tableau, no_row, row_of}
-use Rattle.ta_revised.specs.Negative.{FirstHold, NoneNegativeAt, row_value}
-use Rattle.ta_revised.specs.Revised.{grown, unit_rows}
-use Rattle.ta_revised.specs.Scale.{AreValues, IsScale}
-use Rattle.ta_revised.specs.Valid.{IsRevised}
+use Rattle.ta_revised.specs.Negative.{FirstHold, NoneNegativeAt}
 use Rattle.ta_revised.proofs.NegativeLeaves.{natural_as, slack_arith, terms_value-multiple, unknown_arith}
 use Rattle.ta_revised.proofs.SlackValues.{below_at}
 

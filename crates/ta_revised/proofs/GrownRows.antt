@@ -1,14 +1,6 @@
 -- the dictionary of a longer system
-use Rattle.std.proofs.Common.{◌≡◌, ◌≤◌, ◌-◌, ◌++◌, ℕ, List, map, length, ap, subst, ◌∙◌}
-use Rattle.std.specs.List.{range_with_len}
-use Rattle.ta_dense.specs.Tableau.{TableauRow, Tableau}
-use Rattle.ta_dense.specs.Extending.{raised}
-use Rattle.ta_dense.specs.Inside.Padded.{zero_filled}
-use Rattle.ta_dense.proofs.ExtendFacts.{names_long}
-use Rattle.ta_dense.proofs.SlackRows.{tableau_same}
-use Rattle.ta_revised.specs.Revised.{unit_rows, grown}
-use Rattle.ta_revised.specs.UnknownRows.{unknown_rows}
-use Rattle.ta_revised.specs.declared.unknown_rows.UnknownRow.{UnknownRow}
+use Rattle.ta_revised.proofs.Common.{◌≡◌, ◌≤◌, ◌-◌, ◌++◌, ℕ, List, map, length, ap, subst, ◌∙◌, range_with_len, TableauRow, Tableau, raised, zero_filled}
+use Rattle.ta_revised.proofs.Common.{names_long, tableau_same, unit_rows, grown, unknown_rows, UnknownRow}
 
 -- the names that are raised, and the rows that are filled with zeros and then followed by the new ones, are the grown dictionary's
 pub grown_is : (us names : List ℕ) (rows filled new : List UnknownRow) (old u : ℕ) → old ≡ length us → old ≤ u

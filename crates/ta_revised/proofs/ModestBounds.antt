@@ -1,33 +1,17 @@
 -- bounds of a modest dictionary's rows
-use Rattle.std.proofs.Common.{◌≡◌, inl, inr, ℕ, zero, suc, ◌<◌, ◌≤◌, ◌+◌, ◌-◌, ◌*◌, ◌^◌, List, [], ◌∷◌, length, get_or, replicate, arith, refl}
-use Rattle.std.proofs.Common.{sym, ap, ◌∙◌, subst, ℤ, pos, neg_ℤ, ◌<ℤ◌, ◌-ℤ◌, ◌*ℤ◌, unsigned_abs, int_div, slice_get, IsSomeAnd}
-use Rattle.std.specs.Int.{◌∣◌}
-use Rattle.std.proofs.lemmas.Int.{ints}
-use Rattle.std.proofs.lemmas.Bool.{cases_lt}
-use Rattle.std.proofs.lemmas.List.{length-replicate, get_or_past}
-use Rattle.std.proofs.lemmas.List.Elements.{All-replicate, All-set, All-from_get_or}
-use Rattle.std.proofs.Math.Nat.{mul-le-mul, mul-le-mul_left, mul-le-mul_right, one-dvd}
-use Rattle.ta_base.proofs.Integers.{product_le, quotient_le, abs_minus, abs_sum, abs_natural, unsigned_abs-neg}
-use Rattle.ta_linear.specs.Numbers.{InRange}
-use Rattle.ta_linear.specs.Rows.{AllBelow}
-use Rattle.ta_linear.specs.Terms.{IsNormal}
-use Rattle.ta_linear.specs.declared.row.Row.{Row}
-use Rattle.ta_linear.specs.declared.row.System.{System}
-use Rattle.ta_linear.proofs.TermLemmas.{IsNormal-le}
-use Rattle.ta_dense.specs.Tableau.{Tableau, TableauRow, no_row, row_of, basic_of, cell_of, combine, divisor_of, factor_divisor}
-use Rattle.ta_dense.specs.Valid.{IsDictionaryRow}
-use Rattle.ta_dense.specs.Slack.{IsAssignment}
-use Rattle.ta_dense.specs.Laws.{DictionaryOf}
-use Rattle.ta_revised.specs.Bounds.{IsBound, AreBounded}
-use Rattle.ta_dense.specs.Merge.{CombinesInRange, MergesByInRange, MergesInRange}
-use Rattle.ta_dense.proofs.PivotLaws.{length-combine, get_or-combine}
+use Rattle.ta_revised.proofs.Common.{◌≡◌, inl, inr, ℕ, zero, suc, ◌<◌, ◌≤◌, ◌+◌, ◌-◌, ◌*◌, ◌^◌, List, [], ◌∷◌, length, get_or, replicate, arith, refl, sym, ap}
+use Rattle.ta_revised.proofs.Common.{◌∙◌, subst, ℤ, pos, neg_ℤ, ◌<ℤ◌, ◌-ℤ◌, ◌*ℤ◌, unsigned_abs, int_div, slice_get, IsSomeAnd, ◌∣◌, ints, cases_lt}
+use Rattle.ta_revised.proofs.Common.{length-replicate, get_or_past, All-replicate, All-set, All-from_get_or, mul-le-mul, mul-le-mul_left, one-dvd, product_le}
+use Rattle.ta_revised.proofs.Common.{quotient_le, abs_minus, abs_sum, unsigned_abs-neg, InRange, AllBelow, IsNormal, Row, System, IsNormal-le, Tableau}
+use Rattle.ta_revised.proofs.Common.{TableauRow, no_row, row_of, basic_of, cell_of, combine, divisor_of, factor_divisor, IsDictionaryRow, IsAssignment}
+use Rattle.ta_revised.proofs.Common.{DictionaryOf, IsBound, AreBounded, CombinesInRange, MergesByInRange, MergesInRange, length-combine, get_or-combine}
+use Rattle.ta_revised.proofs.Common.{unit_row, IsScale, plus_row, factor_of, plus_terms, scaled_constant, slack_sum, slack_row_over, weight_of, IsModestRow}
+use Rattle.ta_revised.proofs.Common.{IsRevised, RowsAreRevised}
+use Rattle.std.proofs.Math.Nat.{mul-le-mul_right}
+use Rattle.ta_base.proofs.Integers.{abs_natural}
 use Rattle.ta_revised.proofs.Bounded.{CombinesBelow, combines_below, IsBound-divided}
-use Rattle.ta_revised.specs.UnknownRows.{unit_row}
-use Rattle.ta_revised.specs.Scale.{IsScale}
-use Rattle.ta_revised.specs.Slack.{plus_row, factor_of, plus_terms, scaled_constant, slack_sum, slack_row_over}
-use Rattle.ta_revised.specs.Modest.{weight_of, IsModestRow, AreModestRows, IsModest}
-use Rattle.ta_revised.specs.Valid.{IsRevised}
-use Rattle.ta_revised.specs.Laws.{RowsAreRevised, ModestPivotsStay}
+use Rattle.ta_revised.specs.Modest.{AreModestRows, IsModest}
+use Rattle.ta_revised.specs.Laws.{ModestPivotsStay}
 use Rattle.ta_revised.proofs.Units.{IsDictionaryRow-unit}
 
 -- ---- merges of rows with numbers up to 2^62

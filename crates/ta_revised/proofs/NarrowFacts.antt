@@ -1,7 +1,6 @@
 -- rows of 16-bit numbers before and after a merge
-use Rattle.ta_revised.proofs.Common.{◌≡◌, ℕ, ◌<◌, ◌+◌, ◌*◌, ◌^◌, length, arith, sym, ◌∙◌, subst, ℤ, pos, ◌<ℤ◌}
-use Rattle.ta_revised.proofs.Common.{unsigned_abs, TableauRow, cell_of, merged_by, reduced, turned, divisor_of}
-use Rattle.ta_revised.proofs.Common.{IsProper, IsBound, narrow_view, IsNarrow, NarrowRow}
+use Rattle.ta_revised.proofs.Common.{◌≡◌, ℕ, ◌<◌, ◌+◌, ◌*◌, ◌^◌, length, arith, sym, ◌∙◌, subst, ℤ, pos, ◌<ℤ◌, unsigned_abs, TableauRow, cell_of, merged_by}
+use Rattle.ta_revised.proofs.Common.{reduced, turned, divisor_of, IsProper, IsBound, narrow_view, IsNarrow, NarrowRow}
 use Rattle.ta_dense.proofs.ProperFacts.{IsProper-reduced, IsProper-merged_by, IsProper-turned}
 use Rattle.ta_revised.proofs.Bounded.{IsBound-merged_by, IsBound-divided, IsBound-turned, merges_by_in_range}
 

@@ -1,25 +1,13 @@
 -- the least negative variable leaves
-use Rattle.std.proofs.Common.{ℕ, suc, ◌<◌, ◌+◌, ◌-◌, ◌≡◌, inl, inr, List, [], ◌∷◌, length, get_or, arith, refl, sym, ap, ◌∙◌, subst, ℤ, pos}
-use Rattle.std.proofs.Common.{◌<ℤ◌, ◌≤ℤ◌, ◌+ℤ◌, ◌*ℤ◌, neg_ℤ}
-use Rattle.std.proofs.lemmas.Bool.{cases_lt}
-use Rattle.std.proofs.lemmas.Int.{ints}
-use Rattle.std.proofs.lemmas.Option.{slice_get_cases}
-use Rattle.std.specs.Prelude.{Some, slice_get}
-use Rattle.ta_base.proofs.Integers.{cancel_positive, expand, ge-zero_of_mul, lt-zero_of_mul, mul-ge-zero, mul-lt-zero, mul-neg, product_positive}
-use Rattle.ta_linear.proofs.TermLemmas.{IsNormal-le}
-use Rattle.ta_linear.specs.Terms.{IsNormal}
-use Rattle.ta_linear.specs.Values.{terms_value}
-use Rattle.ta_linear.specs.declared.row.Row.{Row}
-use Rattle.ta_linear.specs.declared.row.System.{System}
-use Rattle.ta_dense.specs.Laws.{DictionaryOf}
+use Rattle.ta_revised.proofs.Common.{ℕ, suc, ◌<◌, ◌+◌, ◌-◌, ◌≡◌, inl, inr, List, [], ◌∷◌, length, get_or, arith, refl, sym, ap, ◌∙◌, subst, ℤ, pos, ◌<ℤ◌, ◌≤ℤ◌}
+use Rattle.ta_revised.proofs.Common.{◌+ℤ◌, ◌*ℤ◌, neg_ℤ, cases_lt, ints, slice_get_cases, Some, slice_get, cancel_positive, expand, product_positive}
+use Rattle.ta_revised.proofs.Common.{IsNormal-le, IsNormal, terms_value, Row, System, DictionaryOf, IsAssignment, variables, Tableau, TableauRow, basic_of}
+use Rattle.ta_revised.proofs.Common.{non_basic_of, row_of, IsDictionaryRow, dot, IsLeastNegative, NoneIsNegative, RowsHold, UnknownsHold, row_value, AreValues}
+use Rattle.ta_revised.proofs.Common.{IsScale, IsRevised}
+use Rattle.ta_base.proofs.Integers.{ge-zero_of_mul, lt-zero_of_mul, mul-ge-zero, mul-lt-zero, mul-neg}
 use Rattle.ta_dense.specs.Leaving.{NoneLeaves}
-use Rattle.ta_dense.specs.Slack.{IsAssignment, variables}
-use Rattle.ta_dense.specs.Tableau.{Tableau, TableauRow, basic_of, non_basic_of, row_of}
-use Rattle.ta_dense.specs.Valid.{IsDictionaryRow, dot}
 use Rattle.ta_revised.specs.Laws.{LeavesAs, NegativesLeave}
-use Rattle.ta_revised.specs.Negative.{IsLeastNegative, IsNegativeSlack, IsNegativeUnknown, NoneIsNegative, RowsHold, UnknownsHold, row_value}
-use Rattle.ta_revised.specs.Scale.{AreValues, IsScale}
-use Rattle.ta_revised.specs.Valid.{IsRevised}
+use Rattle.ta_revised.specs.Negative.{IsNegativeSlack, IsNegativeUnknown}
 use Rattle.ta_revised.proofs.SlackValues.{below_at, follow_at}
 
 -- an assignment at which every non-basic variable is 0

@@ -1,9 +1,7 @@
 -- the rows after a pivot, where they are written back
-use Rattle.std.proofs.Common.{◌≡◌, ◌++◌, ℕ, List, length, take, ap, sym, subst, ◌∙◌}
+use Rattle.ta_revised.proofs.Common.{◌≡◌, ◌++◌, ℕ, List, length, take, ap, sym, subst, ◌∙◌, TableauRow, unknown_rows, UnknownRow}
 use Rattle.std.proofs.Math.Seq.{take-append_seam}
-use Rattle.ta_dense.specs.Tableau.{TableauRow}
-use Rattle.ta_revised.specs.UnknownRows.{AreAfter, unknown_rows}
-use Rattle.ta_revised.specs.declared.unknown_rows.UnknownRow.{UnknownRow}
+use Rattle.ta_revised.specs.UnknownRows.{AreAfter}
 
 -- the first items of two lists are the first list
 first_items : (count : ℕ) (xs ys : List UnknownRow) → length xs ≡ count → take count (xs ++ ys) ≡ xs

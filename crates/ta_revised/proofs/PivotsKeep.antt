@@ -1,16 +1,13 @@
 -- a pivot keeps the rows of the unknowns
-use Rattle.std.proofs.Common.{◌≡◌, inl, inr, ℕ, ◌<◌, length, map, set, arith, sym, ap, ◌∙◌, subst, ℤ, pos, neg_ℤ, ◌<ℤ◌, ◌*ℤ◌, int_div, List}
-use Rattle.std.proofs.lemmas.List.{length-map, length-set, get_or-set_same}
-use Rattle.ta_base.proofs.Integers.{product_positive}
-use Rattle.ta_dense.specs.Tableau.{Tableau, TableauRow, row_of, basic_of, non_basic_of, cell_of, turned, merged, factor_divisor}
-use Rattle.ta_dense.specs.Valid.{EquationHolds, IsDictionary, IsDictionaryRow}
-use Rattle.ta_dense.specs.Slack.{IsAssignment, variables}
+use Rattle.ta_revised.proofs.Common.{◌≡◌, inl, inr, ℕ, ◌<◌, length, map, set, arith, sym, ap, ◌∙◌, subst, ℤ, pos, neg_ℤ, ◌<ℤ◌, ◌*ℤ◌, int_div, List, length-map}
+use Rattle.ta_revised.proofs.Common.{length-set, product_positive, Tableau, TableauRow, row_of, basic_of, non_basic_of, cell_of, turned, merged, factor_divisor}
+use Rattle.ta_revised.proofs.Common.{EquationHolds, IsDictionaryRow, IsAssignment, variables, factors_positive, unit_row, IsAfter}
+use Rattle.std.proofs.lemmas.List.{get_or-set_same}
+use Rattle.ta_dense.specs.Valid.{IsDictionary}
 use Rattle.ta_dense.proofs.PivotLaws.{Holds-turned}
 use Rattle.ta_dense.proofs.MergedRow.{Good, Good-merged, merged_with}
-use Rattle.ta_dense.proofs.ReduceFacts.{factors_positive}
 use Rattle.ta_dense.proofs.Primitive.{IsPrimitive-turned, IsPrimitive-merged}
 use Rattle.ta_dense.proofs.Keeps.{IsDictionary-pivoted, merged_basic}
-use Rattle.ta_revised.specs.UnknownRows.{unit_row, IsAfter}
 use Rattle.ta_revised.specs.Laws.{PivotsKeepRevised}
 use Rattle.ta_revised.proofs.Units.{IsDictionaryRow-unit, unit_says}
 

@@ -1,19 +1,12 @@
 -- what the fields of a dictionary of the unknowns' rows say of its value
-use Rattle.std.proofs.Common.{ℕ, ℤ, ◌≡◌, ◌<◌, ◌^◌, ◌∙◌, List, Option, Some, None, ap, arith, get_or, length, subst, sym}
-use Rattle.std.proofs.lemmas.List.{get_or-map, length-map}
+use Rattle.ta_revised.proofs.Common.{ℕ, ℤ, ◌≡◌, ◌<◌, ◌^◌, ◌∙◌, List, Option, Some, ap, arith, get_or, length, subst, sym, get_or-map, length-map, IsBound}
+use Rattle.ta_revised.proofs.Common.{narrow_view, Tableau, no_row, row_of, System, IsLeastNegative, NoneIsNegative, revised_view, unknown_row, unknown_rows}
+use Rattle.ta_revised.proofs.Common.{IsUnknownRow, AreUnknownRows, Inside, UnknownRow, Column, Basic}
+use Rattle.std.proofs.Common.{None}
 use Rattle.std.specs.Prelude.{IfSome, IfNone}
-use Rattle.ta_revised.specs.Bounds.{IsBound}
-use Rattle.ta_revised.specs.Narrow.{narrow_view}
-use Rattle.ta_dense.specs.Tableau.{Tableau, no_row, row_of}
-use Rattle.ta_linear.specs.declared.row.System.{System}
 use Rattle.ta_revised.specs.Chosen.{LeastIs}
-use Rattle.ta_revised.specs.Negative.{IsLeastNegative, NoneIsNegative}
-use Rattle.ta_revised.specs.Revised.{revised_view, IsSoundRevised}
-use Rattle.ta_revised.specs.UnknownRows.{unknown_row, unknown_rows, IsUnknownRow, AreUnknownRows}
+use Rattle.ta_revised.specs.Revised.{IsSoundRevised}
 use Rattle.ta_revised.proofs.ModestBounds.{bound_more, unit_bound}
-use Rattle.ta_revised.specs.declared.revised.RevisedDictionary.TheInside.{Inside}
-use Rattle.ta_revised.specs.declared.unknown_rows.UnknownRow.{UnknownRow}
-use Rattle.ta_revised.specs.declared.unknown_rows.UnknownRow.TheVariants.{Column, Basic}
 
 -- the rows of a dictionary, from the count of its columns and its own rows
 pub rows_are : (d : Inside) (t : Tableau) (columns : ℕ) (rows : List UnknownRow) → revised_view d ≡ t → columns ≡ length d.non_basic.items

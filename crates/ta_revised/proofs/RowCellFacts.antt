@@ -1,11 +1,9 @@
 -- cells of which the last ones are zeros that are not stored
-use Rattle.ta_revised.proofs.Common.{◌≡◌, ℕ, zero, suc, ◌<◌, ◌≤◌, ◌-◌, List, [], ◌∷◌, ◌++◌, length, get_or, map, replicate, arith}
-use Rattle.ta_revised.proofs.Common.{refl, sym, ap, ◌∙◌, subst, ℤ, pos, negsuc, ◌*ℤ◌, ◌-ℤ◌, ◌<ℤ◌, unsigned_abs, int_div, ints, set}
-use Rattle.ta_revised.proofs.Common.{combine, gcd_with, gcd_of, ext_get_or, get_or_append_left, length-append, length-replicate, length-map, length-set}
-use Rattle.ta_revised.proofs.Common.{gcd_of-zero, replicate_zeros, AreBounded}
+use Rattle.ta_revised.proofs.Common.{◌≡◌, ℕ, zero, suc, ◌<◌, ◌≤◌, ◌-◌, List, [], ◌∷◌, ◌++◌, length, get_or, map, replicate, arith, refl, sym, ap, ◌∙◌, subst, ℤ}
+use Rattle.ta_revised.proofs.Common.{pos, negsuc, ◌*ℤ◌, ◌-ℤ◌, ◌<ℤ◌, unsigned_abs, int_div, ints, set, combine, gcd_with, gcd_of, ext_get_or, get_or_append_left}
+use Rattle.ta_revised.proofs.Common.{length-append, length-replicate, length-map, length-set, gcd_of-zero, replicate_zeros, AreBounded, set-append_left}
+use Rattle.ta_revised.proofs.Common.{zeros_behind}
 use Rattle.std.proofs.Math.Nat.{zero-div}
-use Rattle.std.proofs.lemmas.List.{set-append_left}
-use Rattle.ta_revised.specs.RowCells.{zeros_behind}
 
 zeros_cell : (xs : List ℤ) (n j : ℕ) → get_or (xs ++ replicate n (pos 0)) j (pos 0) ≡ get_or xs j (pos 0)
 zeros_cell [] n j = replicate_zeros n j

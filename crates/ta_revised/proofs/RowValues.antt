@@ -1,16 +1,8 @@
 -- the value of a system's row, term by term
-use Rattle.std.proofs.Common.{ℕ, ℤ, ◌<◌, ◌≡◌, ◌≤◌, ◌+◌, ◌*◌, ◌^◌, ◌*ℤ◌, ◌+ℤ◌, FitsSigned, IsSomeAnd, List, Option, arith, drop, get_or, length}
-use Rattle.std.proofs.Common.{of_z, pos, refl, slice_get, subst, sym, to_z, unsigned_abs}
-use Rattle.std.proofs.Math.Nat.{mul-le-mul_left}
-use Rattle.std.proofs.lemmas.Int.{fits_signed_from_abs, ints, to_z-of_z, unsigned_abs-mul}
-use Rattle.std.proofs.lemmas.List.{drop_more}
-use Rattle.std.proofs.lemmas.Option.{slice_get-get_or}
-use Rattle.std.specs.Int.{w32, w64}
-use Rattle.ta_linear.proofs.TermLemmas.{IsNormal-le}
-use Rattle.ta_linear.specs.Terms.{IsNormal}
-use Rattle.ta_linear.specs.Values.{terms_value}
-use Rattle.ta_revised.specs.Modest.{weight_of}
-use Rattle.ta_revised.specs.ShortRows.{parts_value}
+use Rattle.ta_revised.proofs.Common.{ℕ, ℤ, ◌<◌, ◌≡◌, ◌≤◌, ◌+◌, ◌*◌, ◌^◌, ◌*ℤ◌, ◌+ℤ◌, FitsSigned, IsSomeAnd, List, Option, arith, drop, get_or, length, pos}
+use Rattle.ta_revised.proofs.Common.{refl, slice_get, subst, sym, unsigned_abs, mul-le-mul_left, fits_signed_from_abs, ints, to_z-of_z, unsigned_abs-mul}
+use Rattle.ta_revised.proofs.Common.{drop_more, slice_get-get_or, w32, w64, IsNormal-le, IsNormal, terms_value, weight_of, parts_value}
+use Rattle.std.proofs.Common.{of_z, to_z}
 
 -- what a row's sum keeps: with what is left it is the row's value, and it is small
 pub record RowSumming (scale : ℕ) (values : List ℤ) (r : ℤ × List (ℕ × ℤ)) (sum : ℤ) (left : List (ℕ × ℤ)) : Type 0 where

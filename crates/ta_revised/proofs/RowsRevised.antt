@@ -1,9 +1,5 @@
 -- the rows of a dictionary are the unknowns' rows, and for slacks the sums of these
-use Rattle.std.proofs.Common.{ℕ, ◌<◌, ◌≡◌, length, sym}
-use Rattle.ta_linear.specs.declared.row.System.{System}
-use Rattle.ta_dense.specs.Tableau.{Tableau, basic_of, row_of}
-use Rattle.ta_revised.specs.Laws.{RowsAreRevised}
-use Rattle.ta_revised.specs.Valid.{IsRevised}
+use Rattle.ta_revised.proofs.Common.{ℕ, ◌<◌, ◌≡◌, length, sym, System, Tableau, basic_of, row_of, RowsAreRevised, IsRevised}
 use Rattle.ta_revised.proofs.SlackTrue.{basic_row_is, slack_row_is}
 
 -- the row of a basic unknown is its own

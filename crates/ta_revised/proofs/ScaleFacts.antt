@@ -1,19 +1,13 @@
 -- multiples and divisors of a common scale
-use Rattle.std.proofs.Common.{ℕ, ℤ, ◌<◌, ◌≤◌, ◌≡◌, ◌+◌, ◌/◌, ◌*◌, ◌^◌, ◌∙◌, ◌*ℤ◌, ◌<ℤ◌, FitsSigned, List, arith, ap, below_more, get_or}
-use Rattle.std.proofs.Common.{inl, inr, length, replicate, set}
-use Rattle.std.proofs.Common.{of_z, pos, refl, subst, sym, to_z, unsigned_abs, zero, suc}
-use Rattle.std.proofs.Math.Nat.{mul-div_cancel', one-dvd, dvd-mul_right, dvd-mul_left, eq-zero_of_zero-dvd, div-le_self, mul-le-mul}
-use Rattle.std.proofs.lemmas.Bool.{cases_eq}
-use Rattle.std.proofs.lemmas.Int.{ints, to_z-of_z, to_z_pos, unsigned_abs-mul}
-use Rattle.std.proofs.lemmas.List.{get_or-map, get_or-set_same, get_or-set_other, length-map, length-replicate, length-set}
+use Rattle.ta_revised.proofs.Common.{ℕ, ℤ, ◌<◌, ◌≤◌, ◌≡◌, ◌+◌, ◌/◌, ◌*◌, ◌^◌, ◌∙◌, ◌*ℤ◌, ◌<ℤ◌, FitsSigned, List, arith, ap, below_more, get_or, inl, inr}
+use Rattle.ta_revised.proofs.Common.{length, replicate, set, pos, refl, subst, sym, unsigned_abs, zero, suc, one-dvd, mul-le-mul, cases_eq, ints, to_z-of_z}
+use Rattle.ta_revised.proofs.Common.{to_z_pos, unsigned_abs-mul, get_or-map, length-map, length-replicate, length-set, ◌∣◌, w64, pos_abs, replicate_zeros}
+use Rattle.ta_revised.proofs.Common.{times_assoc, no_row, AreValues, unknown_row, unknown_rows, IsColumn, ListsBasic, UnknownRow, Column, Basic}
+use Rattle.std.proofs.Common.{of_z, to_z}
+use Rattle.std.proofs.Math.Nat.{mul-div_cancel', dvd-mul_right, dvd-mul_left, eq-zero_of_zero-dvd, div-le_self}
+use Rattle.std.proofs.lemmas.List.{get_or-set_same, get_or-set_other}
 use Rattle.std.proofs.lemmas.Nat.Gcd.{dvd_trans}
-use Rattle.std.specs.Int.{◌∣◌, w16, w64}
-use Rattle.ta_base.proofs.Integers.{pos_abs, replicate_zeros, times_assoc}
-use Rattle.ta_dense.specs.Tableau.{no_row}
-use Rattle.ta_revised.specs.Scale.{AreValues}
-use Rattle.ta_revised.specs.UnknownRows.{unknown_row, unknown_rows, IsColumn, ListsBasic}
-use Rattle.ta_revised.specs.declared.unknown_rows.UnknownRow.{UnknownRow}
-use Rattle.ta_revised.specs.declared.unknown_rows.UnknownRow.TheVariants.{Column, Basic}
+use Rattle.std.specs.Int.{w16}
 
 -- a divisor of a positive number is positive
 pub divisor_above : (g n : ℕ) → 0 < n → g ∣ n → 0 < g

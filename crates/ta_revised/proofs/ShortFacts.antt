@@ -1,24 +1,17 @@
 -- rows in short numbers: one more, fewer, and one of them
-use Rattle.std.proofs.Common.{◌≡◌, ◌≤◌, ◌<◌, ◌+◌, ◌-◌, ◌^◌, ◌∙◌, ◌++◌, ◌∷◌, [], List, zero, suc, ℕ, ℤ, ap, arith, append_assoc, drop, get_or, length, map, refl}
-use Rattle.std.proofs.Common.{subst, sym, take}
-use Rattle.std.proofs.Common.{IsSomeAnd, Option, Some, slice_get, to_z, of_z, unsigned_abs, FitsSigned}
+use Rattle.ta_revised.proofs.Common.{◌≡◌, ◌≤◌, ◌<◌, ◌+◌, ◌-◌, ◌^◌, ◌∙◌, ◌++◌, ◌∷◌, [], List, zero, suc, ℕ, ℤ, ap, arith, append_assoc, drop, get_or, length}
+use Rattle.ta_revised.proofs.Common.{map, refl, subst, sym, take, IsSomeAnd, Option, Some, slice_get, unsigned_abs, FitsSigned, fits_signed_from_abs, to_z-of_z}
+use Rattle.ta_revised.proofs.Common.{drop_more, get_or-map, length-append, length-map, map-append, All-append, All-cons, slice_get-get_or, w32, terms_at}
+use Rattle.ta_revised.proofs.Common.{IsNormal, Row, System, IsModestRow, weight_of, row_value, AreShort, parts_value, ShortRow}
+use Rattle.std.proofs.Common.{to_z, of_z}
 use Rattle.std.proofs.Math.Seq.{drop-append_seam}
-use Rattle.std.proofs.lemmas.Int.{fits_signed_from_abs, to_z-of_z}
-use Rattle.std.proofs.lemmas.List.{drop-take, drop_more, get_or-map, length-append, length-map, length-take-le, map-append, take-append-le, take-map, take_all}
+use Rattle.std.proofs.lemmas.List.{drop-take, length-take-le, take-append-le, take-map, take_all}
 use Rattle.std.proofs.lemmas.List.{take_more}
-use Rattle.std.proofs.lemmas.List.Elements.{All-append, All-cons, All-get_or, All-take}
-use Rattle.std.proofs.lemmas.Option.{slice_get-get_or}
-use Rattle.std.specs.Int.{w32, w128}
+use Rattle.std.proofs.lemmas.List.Elements.{All-get_or, All-take}
+use Rattle.std.specs.Int.{w128}
 use Rattle.std.specs.List.{slice_range}
 use Rattle.ta_base.proofs.Lists.{fewer_alike, slice_range-end}
-use Rattle.ta_dense.proofs.DenseFacts.{terms_at}
-use Rattle.ta_linear.specs.Terms.{IsNormal}
-use Rattle.ta_linear.specs.declared.row.Row.{Row}
-use Rattle.ta_linear.specs.declared.row.System.{System}
-use Rattle.ta_revised.specs.Modest.{IsModestRow, weight_of}
-use Rattle.ta_revised.specs.Negative.{row_value}
-use Rattle.ta_revised.specs.ShortRows.{AreShort, StandBetween, parts_value, row_parts, short_parts}
-use Rattle.ta_revised.specs.declared.short_rows.ShortRow.{ShortRow}
+use Rattle.ta_revised.specs.ShortRows.{StandBetween, row_parts, short_parts}
 use Rattle.ta_revised.specs.declared.short_rows.ShortRows.{ShortRows}
 
 -- terms that were written so far
@@ -158,10 +151,6 @@ short_cut s t rows count d h e f a =
           ∙ ap (take count) a.are ∙ take-map row_parts count rows);
       modest = All-take IsModestRow count rows a.modest;
     }
-
--- all of them
-pub short_all : (s : ShortRows) (rows : List Row) (count : ℕ) → length s.rows.items ≤ count → AreShort s rows → AreShort s (take count rows)
-short_all s rows count h a = subst (AreShort s) (sym (take_all count rows (omega (arith, short_count s rows a)))) a
 
 -- the first of some items
 first_item : {X : Type 0} (xs : List X) (i : ℕ) → i < length xs → X

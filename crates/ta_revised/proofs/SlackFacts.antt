@@ -1,40 +1,19 @@
 -- sums of rows of 16-bit numbers and of multiples of the unknowns' rows
-use Rattle.std.proofs.Common.{◌≡◌, ℕ, ◌<◌, ◌≤◌, ◌+◌, ◌-◌, ◌*◌, ◌/◌, ◌^◌, zero, suc, List, [], ◌∷◌, length, set, get_or, replicate}
-use Rattle.std.proofs.Common.{arith, refl, sym, ap, subst, ◌∙◌}
-use Rattle.std.proofs.Common.{inl, inr, ℤ, pos, neg_ℤ, ◌+ℤ◌, ◌-ℤ◌, ◌*ℤ◌, ◌<ℤ◌, unsigned_abs, get_or-set_same, get_or-set_other, drop}
-use Rattle.std.specs.Prelude.{int_div}
-use Rattle.std.proofs.lemmas.Bool.{cases_eq}
-use Rattle.std.proofs.lemmas.Int.{ints}
-use Rattle.std.proofs.lemmas.List.{ext_get_or, get_or-map, length-replicate, length-set, drop_more}
-use Rattle.std.proofs.lemmas.List.Elements.{All-from_get_or, All-set}
+use Rattle.ta_revised.proofs.Common.{◌≡◌, ℕ, ◌<◌, ◌≤◌, ◌+◌, ◌-◌, ◌*◌, ◌/◌, ◌^◌, zero, suc, List, [], ◌∷◌, length, set, get_or, replicate, arith, refl, sym, ap}
+use Rattle.ta_revised.proofs.Common.{subst, ◌∙◌, inl, inr, ℤ, pos, neg_ℤ, ◌+ℤ◌, ◌-ℤ◌, ◌*ℤ◌, ◌<ℤ◌, unsigned_abs, get_or-set_same, get_or-set_other, drop}
+use Rattle.ta_revised.proofs.Common.{int_div, cases_eq, ints, ext_get_or, get_or-map, length-replicate, length-set, drop_more, All-from_get_or, All-set}
+use Rattle.ta_revised.proofs.Common.{abs_sum, product_le, unsigned_abs-neg, expand, div-one, replicate_zeros, pos_abs, Row, System, AllBelow, IsNormal}
+use Rattle.ta_revised.proofs.Common.{IsNormal-le, Tableau, TableauRow, cell_of, combine, no_row, reduced, IsProper, AreBounded, IsBound, CombinesIn16}
+use Rattle.ta_revised.proofs.Common.{AllCombineIn16, narrow_view, IsNarrow, NarrowRow, get_or-combine, length-combine, variables, terms_at, revised_view}
+use Rattle.ta_revised.proofs.Common.{factor_of, plus_row, plus_terms, scaled_constant, slack_row_over, AreUnknownRows, IsUnknownRow, unit_row, unknown_row}
+use Rattle.ta_revised.proofs.Common.{unknown_rows, Inside, UnknownRow, Column, Basic, w16, SFits}
 use Rattle.std.proofs.Math.ListN.{drop_of_length-le}
-use Rattle.ta_base.proofs.Integers.{abs_sum, product_le, unsigned_abs-neg, expand, div-one, replicate_zeros, pos_abs}
 use Rattle.ta_base.proofs.Lists.{has_read}
-use Rattle.ta_linear.specs.declared.row.Row.{Row}
-use Rattle.ta_linear.specs.declared.row.System.{System}
-use Rattle.ta_linear.specs.Rows.{AllBelow}
-use Rattle.ta_linear.specs.Terms.{IsNormal}
-use Rattle.ta_linear.proofs.TermLemmas.{IsNormal-le}
-use Rattle.ta_dense.specs.Tableau.{Tableau, TableauRow, cell_of, combine, no_row, reduced}
-use Rattle.ta_dense.specs.Merge.{IsProper}
-use Rattle.ta_revised.specs.Bounds.{AreBounded, IsBound, CombinesIn16, AllCombineIn16}
-use Rattle.ta_revised.specs.Narrow.{narrow_view, IsNarrow}
-use Rattle.ta_revised.specs.declared.narrow_rows.NarrowRow.{NarrowRow}
 use Rattle.ta_revised.proofs.Bounded.{cell_le, fits16, in_range_of}
 use Rattle.ta_revised.proofs.NarrowFacts.{narrow_reduced}
-use Rattle.ta_dense.proofs.PivotLaws.{get_or-combine, length-combine}
-use Rattle.ta_dense.specs.Slack.{variables}
-use Rattle.ta_dense.proofs.DenseFacts.{terms_at}
 use Rattle.ta_dense.proofs.RowFacts.{record_same}
 use Rattle.ta_revised.specs.Chosen.{IsRowOf}
-use Rattle.ta_revised.specs.Revised.{revised_view}
-use Rattle.ta_revised.specs.Slack.{factor_of, plus_cell, plus_row, plus_terms, scaled_constant, slack_row_over}
-use Rattle.ta_revised.specs.UnknownRows.{AreUnknownRows, IsUnknownRow, unit_row, unknown_row, unknown_rows}
-use Rattle.ta_revised.specs.declared.revised.RevisedDictionary.TheInside.{Inside}
-use Rattle.ta_revised.specs.declared.unknown_rows.UnknownRow.{UnknownRow}
-use Rattle.ta_revised.specs.declared.unknown_rows.UnknownRow.TheVariants.{Column, Basic}
-use mir.Syntax.{w16}
-use mir.Val.{SFits}
+use Rattle.ta_revised.specs.Slack.{plus_cell}
 
 -- a row of numbers with a bound is narrow where the bound fits
 narrow_of : (n : ℕ) (new : NarrowRow) (x : TableauRow) → narrow_view new ≡ x → pos 0 <ℤ x.denominator → length x.cells ≡ n → IsBound new.bound x
@@ -236,13 +215,6 @@ add-more n scale rows start all ts i d e r sum new a h at is narrow =
       narrow = subst (λ (m : ℕ). IsNarrow m new) a.narrow.proper.long narrow;
       value = ap (λ (x : TableauRow). plus_terms scale (unknown_rows n rows) x (drop (i + 1) ts)) added ∙ value;
     }
-
--- no term is left
-pub add-end : (n scale : ℕ) (rows : List UnknownRow) (start : TableauRow) (all ts : List (ℕ × ℤ)) (i : ℕ) (sum : NarrowRow)
-    → Adding n scale rows start all (drop i ts) sum → length ts ≤ i → narrow_view sum ≡ plus_terms scale (unknown_rows n rows) start all
-add-end n scale rows start all ts i sum a h =
-    let none : drop i ts ≡ [] = drop_of_length-le ts h in
-    rw none at a.value
 
 -- the steps of a slack's row
 pub record Summed (columns scale slack : ℕ) (rows : List UnknownRow) (r : Row) (first sum new : NarrowRow) : Type 0 where

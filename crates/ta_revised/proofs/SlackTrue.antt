@@ -1,29 +1,16 @@
 -- the sum of the unknowns' rows for a slack is a row of the dictionary
-use Rattle.std.proofs.Common.{ℕ, zero, suc, ◌<◌, ◌+◌, ◌≡◌, List, [], ◌∷◌, length, get_or, replicate, arith, refl, sym, ap, ◌∙◌, subst, ℤ, pos, neg_ℤ}
-use Rattle.std.proofs.Common.{◌<ℤ◌, ◌+ℤ◌, ◌*ℤ◌, ◌-ℤ◌, inl, inr, unsigned_abs}
+use Rattle.ta_revised.proofs.Common.{ℕ, zero, suc, ◌<◌, ◌+◌, ◌≡◌, List, [], ◌∷◌, length, get_or, replicate, arith, refl, sym, ap, ◌∙◌, subst, ℤ, pos, neg_ℤ}
+use Rattle.ta_revised.proofs.Common.{◌<ℤ◌, ◌+ℤ◌, ◌*ℤ◌, ◌-ℤ◌, inl, inr, unsigned_abs, ints, slice_get_cases, length-map, length-replicate, ◌∣◌, Some, int_div}
+use Rattle.ta_revised.proofs.Common.{slice_get, IsSomeAnd, expand, pos_abs, times_assoc, IsNormal-le, IsNormal, terms_value, Row, System, IsAssignment}
+use Rattle.ta_revised.proofs.Common.{variables, Tableau, TableauRow, basic_of, combine, divisor_of, no_row, reduced, row_of, EquationHolds, IsDictionaryRow}
+use Rattle.ta_revised.proofs.Common.{dot, gcd_with_divides, length-combine, IsScale, factor_of, plus_row, plus_terms, scaled_constant, slack_row_over}
+use Rattle.ta_revised.proofs.Common.{slack_sum, IsRevised}
 use Rattle.std.proofs.Math.IntN.{*ℤ_comm}
-use Rattle.std.proofs.lemmas.Int.{ints}
-use Rattle.std.proofs.lemmas.Option.{slice_get_cases}
-use Rattle.std.proofs.lemmas.List.{length-map, length-replicate}
-use Rattle.std.specs.Int.{◌∣◌}
-use Rattle.std.specs.Prelude.{Some, int_div, slice_get, IsSomeAnd}
-use Rattle.ta_base.proofs.Integers.{div_exact, expand, factor_positive, pos_abs, times_assoc}
-use Rattle.ta_linear.proofs.TermLemmas.{IsNormal-le}
-use Rattle.ta_linear.specs.Terms.{IsNormal}
-use Rattle.ta_linear.specs.Values.{terms_value}
-use Rattle.ta_linear.specs.declared.row.Row.{Row}
-use Rattle.ta_linear.specs.declared.row.System.{System}
-use Rattle.ta_dense.specs.Slack.{IsAssignment, variables}
-use Rattle.ta_dense.specs.Tableau.{Tableau, TableauRow, basic_of, combine, divisor_of, no_row, reduced, row_of}
-use Rattle.ta_dense.specs.Valid.{EquationHolds, IsDictionaryRow, dot}
-use Rattle.ta_dense.proofs.Divide.{Holds-divided, gcd_with_divides}
+use Rattle.ta_base.proofs.Integers.{div_exact, factor_positive}
+use Rattle.ta_dense.proofs.Divide.{Holds-divided}
 use Rattle.ta_dense.proofs.Dot.{dot-combine}
-use Rattle.ta_dense.proofs.PivotLaws.{length-combine}
 use Rattle.ta_dense.proofs.Primitive.{IsPrimitive-reduced}
 use Rattle.ta_dense.proofs.Unique.{unique_row}
-use Rattle.ta_revised.specs.Scale.{IsScale}
-use Rattle.ta_revised.specs.Slack.{factor_of, plus_row, plus_terms, scaled_constant, slack_row_over, slack_sum}
-use Rattle.ta_revised.specs.Valid.{IsRevised}
 use Rattle.ta_revised.proofs.SlackValues.{below_at, follow_at}
 
 -- what a sum is after the multiple of a row that makes k times the scale of an unknown

@@ -1,10 +1,6 @@
 -- what an assignment and a system say of the row at a place
-use Rattle.std.proofs.Common.{ℕ, zero, suc, ◌+◌, ◌≡◌, List, [], ◌∷◌, arith, ap, ◌∙◌, subst, ℤ}
+use Rattle.ta_revised.proofs.Common.{ℕ, zero, suc, ◌+◌, ◌≡◌, List, [], ◌∷◌, arith, ap, ◌∙◌, subst, ℤ, Some, slice_get, AllBelow, IsNormal, Row}
 use Rattle.std.proofs.lemmas.Option.{none-some, same_Some}
-use Rattle.std.specs.Prelude.{Some, slice_get}
-use Rattle.ta_linear.specs.Rows.{AllBelow}
-use Rattle.ta_linear.specs.Terms.{IsNormal}
-use Rattle.ta_linear.specs.declared.row.Row.{Row}
 use Rattle.ta_dense.specs.Slack.{SlacksFollow, slack_at}
 
 -- a slack follows its row

@@ -1,15 +1,9 @@
 -- rows of unknowns that belong to columns
-use Rattle.std.proofs.Common.{◌≡◌, ◌≢◌, ◌<◌, ◌≤◌, ◌+◌, ◌-◌, ◌++◌, ◌∷◌, [], ℕ, suc, ℤ, List, pos, length, map, set, replicate, sym, ap, ◌∙◌, arith}
-use Rattle.std.proofs.lemmas.List.FromFn.{length-range_with_len}
-use Rattle.std.specs.List.{range_with_len}
-use Rattle.std.proofs.lemmas.List.{get_or-set_other, length-map, length-replicate, replicate-append-replicate, set-append_left, map-append}
-use Rattle.ta_base.proofs.Integers.{replicate_zeros}
-use Rattle.ta_base.proofs.Lists.{range_more}
-use Rattle.ta_dense.specs.Tableau.{TableauRow, cell_of, merged}
-use Rattle.ta_dense.specs.Inside.Padded.{zero_filled}
-use Rattle.ta_dense.proofs.ProperFacts.{merged-zero}
-use Rattle.ta_revised.specs.UnknownRows.{unit_row}
-use Rattle.ta_revised.specs.Revised.{unit_rows}
+use Rattle.ta_revised.proofs.Common.{◌≡◌, ◌<◌, ◌≤◌, ◌+◌, ◌-◌, ◌++◌, ◌∷◌, [], ℕ, suc, ℤ, List, pos, length, map, set, replicate, sym, ap, ◌∙◌, arith}
+use Rattle.ta_revised.proofs.Common.{length-range_with_len, range_with_len, length-map, length-replicate, set-append_left, map-append, replicate_zeros}
+use Rattle.ta_revised.proofs.Common.{range_more, TableauRow, cell_of, merged, zero_filled, merged-zero, unit_row, unit_rows}
+use Rattle.std.proofs.Common.{◌≢◌}
+use Rattle.std.proofs.lemmas.List.{get_or-set_other, replicate-append-replicate}
 
 -- a row that belongs to another column stays
 pub unit_stays : (columns v own column : ℕ) (chosen : TableauRow) → own ≢ column → unit_row columns v own ≡ merged column chosen (unit_row columns v own)

@@ -1,20 +1,12 @@
 -- the row of an unknown that belongs to a column
-use Rattle.std.proofs.Common.{◌≡◌, ℕ, zero, suc, ◌<◌, List, [], ◌∷◌, length, set, get_or, replicate, arith, refl, sym, ap, ◌∙◌, subst}
-use Rattle.std.proofs.Common.{ℤ, pos}
-use Rattle.std.proofs.lemmas.Int.{ints}
-use Rattle.std.proofs.lemmas.List.{length-map, length-replicate, length-set, get_or-map}
-use Rattle.std.proofs.lemmas.List.FromFn.{get_or-range_with_len, length-range_with_len}
+use Rattle.ta_revised.proofs.Common.{◌≡◌, ℕ, zero, suc, ◌<◌, List, [], ◌∷◌, length, set, get_or, replicate, arith, refl, sym, ap, ◌∙◌, subst, ℤ, pos, ints}
+use Rattle.ta_revised.proofs.Common.{length-map, length-replicate, length-set, get_or-map, length-range_with_len, range_with_len, TableauRow, no_row, row_of}
+use Rattle.ta_revised.proofs.Common.{dot, EquationHolds, IsDictionaryRow, IsAssignment, System, unit_row, IsRevised}
+use Rattle.std.proofs.lemmas.List.FromFn.{get_or-range_with_len}
 use Rattle.std.proofs.Math.Nat.{eq-one_of_dvd-one}
-use Rattle.std.specs.List.{range_with_len}
-use Rattle.ta_dense.specs.Tableau.{TableauRow, no_row, row_of}
-use Rattle.ta_dense.specs.Valid.{dot, EquationHolds, IsDictionaryRow}
-use Rattle.ta_dense.specs.Slack.{IsAssignment}
-use Rattle.ta_linear.specs.declared.row.System.{System}
 unfoldable use Rattle.ta_dense.specs.Slack.{slack_tableau}
 use Rattle.ta_dense.proofs.SlackDictionary.{IsDictionary-slack}
-use Rattle.ta_revised.specs.UnknownRows.{unit_row}
 use Rattle.ta_revised.specs.Revised.{first_rows}
-use Rattle.ta_revised.specs.Valid.{IsRevised}
 
 dot-nothing : (us : List ℕ) (value : ℕ → ℤ) → dot (replicate (length us) (pos 0)) us value ≡ pos 0
 dot-nothing [] value = refl

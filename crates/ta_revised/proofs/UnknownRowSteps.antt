@@ -1,12 +1,8 @@
 -- the rows of the unknowns while a pivot goes through them
-use Rattle.std.proofs.Common.{◌≡◌, ◌<◌, ◌+◌, ◌-◌, ◌++◌, ℕ, List, length, get_or, set, ap, arith, inl, inr}
-use Rattle.std.proofs.lemmas.Bool.{cases_eq}
-use Rattle.std.proofs.lemmas.List.{get_or-set_same, get_or-set_other, length-append, length-map}
-use Rattle.ta_dense.specs.Tableau.{TableauRow, no_row}
-use Rattle.ta_revised.specs.UnknownRows.{IsAfter, unknown_row, unknown_rows}
-use Rattle.ta_revised.specs.Revised.{unit_rows}
+use Rattle.ta_revised.proofs.Common.{◌≡◌, ◌<◌, ◌+◌, ◌-◌, ◌++◌, ℕ, List, length, get_or, set, ap, arith, inl, inr, cases_eq, length-append, length-map}
+use Rattle.ta_revised.proofs.Common.{TableauRow, no_row, IsAfter, unknown_row, unknown_rows, unit_rows, UnknownRow}
+use Rattle.std.proofs.lemmas.List.{get_or-set_same, get_or-set_other}
 use Rattle.ta_revised.proofs.UnitRow.{length_unit_rows}
-use Rattle.ta_revised.specs.declared.unknown_rows.UnknownRow.{UnknownRow}
 
 -- those before a number are as the pivot makes them
 abbrev pub AfterBelow : ℕ → ℕ → TableauRow → List TableauRow → List TableauRow → ℕ → Type 0

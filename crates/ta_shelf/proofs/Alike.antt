@@ -1,13 +1,11 @@
 -- a comparison of a file with bytes, so far and at its end
 use Rattle.ta_shelf.proofs.Common.{◌≡◌, ◌≢◌, ◌∙◌, ℕ, ◌+◌, ◌≤◌, Bool, true, false, List, ◌++◌, length, take, drop, Ok, inl, inr, refl, sym, ap, subst, arith}
 use Rattle.ta_shelf.proofs.Common.{take-add, take-append-drop, take-append_seam, append_assoc, length-append, length-drop, length-take-le, bytes_eq}
-use Rattle.ta_shelf.proofs.Common.{bytes_eq-Decides, Call, Event}
+use Rattle.ta_shelf.proofs.Common.{bytes_eq-Decides, Call, Event, true≢false, take_all, Grew, ComparesBy}
 use Rattle.std.specs.Prelude.{Decides, MatchBool, nat_eq}
-use Rattle.std.proofs.lemmas.Bool.{true≢false}
 use Rattle.std.proofs.lemmas.Bool.Decides.{Decides-eqb}
-use Rattle.std.proofs.lemmas.List.{append_cancel_left, take_all}
-use Rattle.ta_shelf.specs.Calls.{Grew, Spells}
-use Rattle.ta_shelf.specs.Compare.{ComparesBy}
+use Rattle.std.proofs.lemmas.List.{append_cancel_left}
+use Rattle.ta_shelf.specs.Calls.{Spells}
 use Rattle.ta_shelf.proofs.CallLemmas.{TurnsFrom}
 
 -- bytes begin with others exactly where as many of their first ones are equal to them

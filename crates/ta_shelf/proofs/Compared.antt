@@ -1,12 +1,11 @@
 -- outputs that are compared with bytes
+use Rattle.ta_shelf.proofs.Common.{Bool, false, true, true≢false, ComparesBy, AreUnlike, Compares, HoldsFirst, SparesBy}
 use Rattle.ta_shelf.proofs.ShellCommon.{◌≡◌, ◌∙◌, ◌++◌, ◌∷◌, [], ℕ, List, Option, None, Some, Result, Ok, Err, refl, sym, ap, subst, inl, inr, append_assoc}
 use Rattle.ta_shelf.proofs.ShellCommon.{append-nil, IfSome, Contains-append_left, Contains-append_right, each_append, each_weaker, Call, Event, Grew, reads}
 use Rattle.ta_shelf.proofs.ShellCommon.{Refusal, Refused, ReadFailed, PutFailed, Memory, Told, Unlike, View, Whole, seen, where_told}
-use Rattle.std.specs.Prelude.{Bool, false, true}
-use Rattle.std.proofs.lemmas.Bool.{true≢false}
-use Rattle.ta_shelf.specs.Compare.{ComparesBy, HoldsSo, TellsOther}
+use Rattle.ta_shelf.specs.Compare.{HoldsSo, TellsOther}
 use Rattle.ta_shelf.proofs.CallLemmas.{reads-append}
-use Rattle.ta_shelf.specs.Sparing.{AreComparing, AreUnlike, Compares, HoldsFirst, IsComparing, SparesBy}
+use Rattle.ta_shelf.specs.Sparing.{AreComparing, IsComparing}
 use Rattle.ta_shelf.proofs.ReadCalls.{all_of, sees_whole}
 use Rattle.ta_shelf.proofs.Views.{Sub, sub_within}
 
@@ -116,17 +115,6 @@ module _ (view : View) (names more : List (List ℕ)) (bytes words : List ℕ) w
   first_spared (ReadFailed name) h = Contains-append_left names more name.now h
   first_spared (PutFailed name) h = h
   first_spared Memory h = tt
-
-pub compares_first : (files : Option Told) (names more : List (List ℕ)) (bytes words : List ℕ) (refusal : Refusal) (before after : List Event)
-    → Grew (Compares files names bytes words (Err refusal)) before after → Grew (Compares files (names ++ more) bytes words (Err refusal)) before after
-compares_first files names more bytes words refusal before after one = record {
-  added = one.added;
-  grown = one.grown;
-  such = record {
-    comparing = subst (AreComparing (names ++ more)) (append-nil one.added) (both_compared names more one.added [] one.such.comparing (none_compared more));
-    spares = first_spared (seen files one.added) names more bytes words refusal one.such.spares;
-  };
-}
 
 -- outputs are compared, and then others
 pub compares_both : (files now : Option Told) (names more : List (List ℕ)) (bytes words : List ℕ) (result : Result (Unit {0}) Refusal)

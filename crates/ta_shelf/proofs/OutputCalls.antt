@@ -9,10 +9,6 @@ pub puts-append : (first later : List PutCall) → puts (first ++ later) ≡ put
 puts-append [] later = refl
 puts-append (call ∷ first) later = ap (λ (events : List Event). Puts call ∷ events) (puts-append first later)
 
--- no call
-pub changed_none : (Such : List PutCall → Type 0) (before after : List Event) → after ≡ before → Such [] → Changed Such before after
-changed_none Such before after same such = record { made = []; grown = same ∙ sym (append-nil before); such = such }
-
 -- one call
 pub changed_one : (Such : List PutCall → Type 0) (before after : List Event) (call : PutCall) → after ≡ before ++ Puts call ∷ [] → Such (call ∷ [])
     → Changed Such before after

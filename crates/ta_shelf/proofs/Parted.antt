@@ -1,4 +1,6 @@
 -- outputs that are asked where they lead
+use Rattle.ta_shelf.proofs.Common.{Bool, false, true, ShelfFault, holds_read, AreApart, AreSparing, AreUnlike, Compares, Destroys, MeetsFirst, Protects}
+use Rattle.ta_shelf.proofs.Common.{SparesBy}
 use Rattle.ta_shelf.proofs.ShellCommon.{
   ◌≡◌,
   ◌∙◌,
@@ -39,12 +41,9 @@ use Rattle.ta_shelf.proofs.ShellCommon.{
   where_told,
   each_weaker,
 }
-use Rattle.std.specs.Prelude.{Bool, false, true}
 use Rattle.ta_shelf.specs.Place.{LeadsSo, asks_place}
-use Rattle.ta_shelf.specs.declared.fault.ShelfFault.{ShelfFault}
 use Rattle.ta_shelf.proofs.CallLemmas.{reads-append}
-use Rattle.ta_shelf.specs.Lines.{holds_read}
-use Rattle.ta_shelf.specs.Sparing.{AreApart, AreAsking, AreSparing, AreUnlike, Compares, Destroys, MeetsFirst, Parts, PartsBy, Protects, ProtectsBy, SparesBy}
+use Rattle.ta_shelf.specs.Sparing.{AreAsking, Parts, PartsBy, ProtectsBy}
 use Rattle.ta_shelf.proofs.Compared.{holds_more, sub_before, sub_behind, unlike_more}
 use Rattle.ta_shelf.proofs.ReadCalls.{all_of}
 use Rattle.ta_shelf.proofs.Views.{Sub}

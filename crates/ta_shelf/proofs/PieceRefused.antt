@@ -1,13 +1,11 @@
 -- a whole file of which a piece was refused
-use Rattle.ta_shelf.proofs.Common.{◌≡◌, ℕ, List, Option, Some, None, Err, refl, inr, IfSome, Call}
-use Rattle.ta_shelf.specs.Calls.{EndsWith, ReadsBy}
+use Rattle.ta_shelf.proofs.Common.{◌≡◌, ℕ, List, Option, Some, None, Err, refl, inr, IfSome, Call, EndsWith, ShelfFault, WholeFault, Memory}
+use Rattle.ta_shelf.specs.Calls.{ReadsBy}
 use Rattle.ta_shelf.specs.ReadPiece.{GivesFirst}
 use Rattle.ta_shelf.specs.ReadWhole.{ReadsWhole, FailsOnlyFaulted}
 use Rattle.ta_shelf.specs.Shelf.{ReadsAt, FailsOnlyFaulted as PieceFailsOnlyFaulted}
-use Rattle.ta_shelf.specs.declared.fault.ShelfFault.{ShelfFault}
 use Rattle.ta_shelf.specs.declared.fault.ShelfFault.TheVariants.{Missing as MissingThere, Failed as FailedThere, Memory as NoMemory}
-use Rattle.ta_shelf.specs.declared.fault.WholeFault.{WholeFault}
-use Rattle.ta_shelf.specs.declared.fault.WholeFault.TheVariants.{Missing, Failed, Memory}
+use Rattle.ta_shelf.specs.declared.fault.WholeFault.TheVariants.{Missing, Failed}
 
 -- the refusal of the whole file
 abbrev pub of_piece : ShelfFault → WholeFault

@@ -1,10 +1,10 @@
 -- pieces that are written one after the other
+use Rattle.ta_shelf.proofs.Common.{take-length, with_text}
 use Rattle.ta_shelf.proofs.ShellCommon.{◌≡◌, ◌∙◌, ◌≤◌, ◌<◌, ◌+◌, ℕ, suc, List, [], ◌∷◌, ◌++◌, length, take, drop, get_or, Option, Err, refl, sym, ap, inl, inr}
 use Rattle.ta_shelf.proofs.ShellCommon.{arith, append_assoc, length-append, add-one, drop-cons, append-nil, take-append-le, Calm, SinkState, Tells, piece_text}
 use Rattle.ta_shelf.proofs.ShellCommon.{pieces_text, SinkFaltered as SinkFailed}
-use Rattle.std.proofs.Math.Seq.{drop-length, take-append-add, take-length}
+use Rattle.std.proofs.Math.Seq.{drop-length, take-append-add}
 use Rattle.ta_shelf.proofs.WrittenSoFar.{with_text-append}
-use Rattle.ta_shelf.specs.Sink.{with_text}
 use Rattle.ta_shelf.specs.WriteWhole.{AddsPrefix, AddsWhole, HasCause}
 use Rattle.ta_shelf.specs.declared.fault.SinkFault.{SinkFault}
 use Rattle.ta_shelf.specs.declared.fault.SinkFault.TheVariants.{Failed, Stuck}

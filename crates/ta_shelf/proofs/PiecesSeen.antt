@@ -1,12 +1,12 @@
 -- what is seen of a file that is read in pieces
+use Rattle.ta_shelf.proofs.Common.{ShelfFault}
 use Rattle.ta_shelf.proofs.ShellCommon.{◌≡◌, ◌∙◌, ◌+◌, ◌-◌, ◌<◌, ◌≤◌, ◌⊎◌, ℕ, List, [], ◌∷◌, ◌++◌, length, take, drop, Option, None, Some, Ok, Err, refl, sym}
 use Rattle.ta_shelf.proofs.ShellCommon.{ap, subst, inl, inr, arith, append_assoc, length-append, append-nil, drop_at, length-take-le, take-append-drop, IfSome}
 use Rattle.ta_shelf.proofs.ShellCommon.{Call, PieceBy, ReadsFirst, ReadsOn, Spells, Stops, bytes_given, Told, BeginsWith, FillsFrom, ReadsPiece, IsLonger}
 use Rattle.ta_shelf.proofs.ShellCommon.{Refusal, Refused, ReadFailed, PutFailed, Memory, file_line, longer_than, phrase_text, IsReading, SaysOfFile, UnreadBy}
 use Rattle.ta_shelf.proofs.ShellCommon.{Absent, Begins, HasMore, Whole, in_calls, seen, where_told, ReadingGoesOn, FileIsAtFault, IsBroken, Kind, Stage}
-use Rattle.ta_shelf.specs.declared.fault.ShelfFault.{ShelfFault}
-use Rattle.ta_shelf.specs.declared.fault.ShelfFault.TheVariants as shelf
 use Rattle.ta_shelf.proofs.CallLemmas.{ReadsOn-append, bytes_given-append}
+use Rattle.ta_shelf.specs.declared.fault.ShelfFault.TheVariants as shelf
 
 -- calls that read the first bytes and then a piece: the piece is full, or it ended the file
 pub piece_read : (name text buffer : List ℕ) (at count : ℕ) (calls more : List Call) → ReadsFirst name calls text → at ≡ length text → count ≤ length buffer

@@ -1,11 +1,10 @@
 -- what the calls of a reading give is seen in them and in the files
+use Rattle.ta_shelf.proofs.Common.{IfSome, WholeFault, Memory}
 use Rattle.ta_shelf.proofs.ShellCommon.{◌≡◌, ◌∷◌, ◌∙◌, refl, ap, Event, Reads, Puts, reads, List, [], ℕ, Option, None, Some, Result, Ok, Err, sym, subst, inl}
 use Rattle.ta_shelf.proofs.ShellCommon.{inr, append-nil, Call, ReadsBy, Spells, bytes_given, Told, BeginsWith, GivesFirst, ReadsWhole, Missing, TooLong}
 use Rattle.ta_shelf.proofs.ShellCommon.{Refusal, Refused, ReadFailed, PutFailed, Gives, IsReading, IsUnreadable, SaysOfFile, Absent, Begins, HasMore, Part}
 use Rattle.ta_shelf.proofs.ShellCommon.{View, Whole, seen, where_told, Memory as NoMemory}
-use Rattle.std.specs.Prelude.{IfSome}
-use Rattle.ta_shelf.specs.declared.fault.WholeFault.{WholeFault}
-use Rattle.ta_shelf.specs.declared.fault.WholeFault.TheVariants.{Failed, Memory}
+use Rattle.ta_shelf.specs.declared.fault.WholeFault.TheVariants.{Failed}
 use Rattle.ta_shelf.specs.declared.file_reading.Limit.{Limit}
 
 -- the calls that read, of a log

@@ -1,11 +1,11 @@
 -- files of an answer, one around the other
+use Rattle.ta_shelf.proofs.Common.{take-length}
 use Rattle.ta_shelf.proofs.ShellCommon.{◌≡◌, ◌∙◌, ◌⊎◌, ℕ, List, [], ◌∷◌, ◌++◌, Option, Result, Ok, Err, refl, sym, ap, subst, inl, inr, append_assoc, Bor}
 use Rattle.ta_shelf.proofs.ShellCommon.{Changed, Event, Puts, puts, Contains, contains_here, each_append, PutCall, Told, Put, map, names_put, put_bytes}
 use Rattle.ta_shelf.proofs.ShellCommon.{put_text, AreOfStages, AreStaging, PutWhole, StopsPublishing, Stages, published, Step, Halt, length, arith, with_text}
 use Rattle.ta_shelf.proofs.ShellCommon.{SinkState, Tells, Unpublished, Unstaged, PublishRefused, PublishesOne, Settled, WritesText}
-use Rattle.ta_shelf.specs.declared.putting.Halt.TheVariants as halt
 use Rattle.ta_shelf.proofs.OutputCalls.{of_stages_within, puts-append, stages_staging, staging_of_stages, staging_within, within_first, within_later}
-use Rattle.std.proofs.Math.Seq.{take-length}
+use Rattle.ta_shelf.specs.declared.putting.Halt.TheVariants as halt
 
 -- the call that lets a file go
 abbrev pub let_go : List ℕ → PutCall

@@ -1,16 +1,15 @@
 -- a file is read, and outputs are compared with it
+use Rattle.ta_shelf.proofs.Common.{holds_read, AreApart, AreSparing, AreUnlike, Destroys, HoldsFirst, MeetsFirst, Protects, true≢false}
 use Rattle.ta_shelf.proofs.ShellCommon.{◌≡◌, ◌∙◌, ◌≤◌, ◌⊎◌, List, [], ◌∷◌, ◌++◌, ℕ, Option, Some, Result, Ok, Err, refl, sym, ap, subst, inl, inr, arith}
 use Rattle.ta_shelf.proofs.ShellCommon.{append_assoc, Call, Event, Grew, reads, Told, Answer, Refusal, Refused, ReadFailed, PutFailed, Memory, Decides, IsSo}
 use Rattle.ta_shelf.proofs.ShellCommon.{JudgementHolds, Meaning, Says, PutsWithin, ReadsFile, IsReading, View, Whole, in_files, seen, Hinders, FileMeans, Kind}
 use Rattle.ta_shelf.proofs.ShellCommon.{Stage, after}
 use Rattle.ta_shelf.proofs.CallLemmas.{reads-append}
-use Rattle.ta_shelf.specs.Lines.{holds_read}
 use Rattle.ta_shelf.specs.Stages.{Then}
-use Rattle.ta_shelf.specs.Sparing.{AreApart, AreSparing, AreUnlike, Destroys, Differ, HoldsFirst, HoldsRead, MeetsFirst, Protects, SparedStage, SparedYields}
+use Rattle.ta_shelf.specs.Sparing.{Differ, HoldsRead, SparedStage, SparedYields}
 use Rattle.ta_shelf.specs.Sparing.{spared, sparing}
 use Rattle.ta_shelf.proofs.Compared.{sub_before, sub_behind, unlike_more}
 use Rattle.ta_shelf.proofs.Parted.{apart_more, destroys_more}
-use Rattle.std.proofs.lemmas.Bool.{true≢false}
 use Rattle.ta_shelf.proofs.Read.{after_monotone, no_hindrance}
 use Rattle.ta_shelf.proofs.Views.{Monotone, Sub, has_more, sub_told}
 

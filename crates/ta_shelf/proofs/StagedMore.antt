@@ -1,10 +1,10 @@
 -- a file that is staged while its bytes are made
+use Rattle.ta_shelf.proofs.Common.{Bytes}
 use Rattle.ta_shelf.proofs.ShellCommon.{◌≡◌, ◌∙◌, ◌+◌, ◌<◌, Bor, inr, ℕ, List, [], ◌∷◌, ◌++◌, Option, Some, None, Ok, Err, refl, sym, ap, subst, arith, length}
 use Rattle.ta_shelf.proofs.ShellCommon.{length-append, concat, concat_more, contains_here, each_append, IfSome, Event, PutCall, Puts, Changed, AreStaging}
 use Rattle.ta_shelf.proofs.ShellCommon.{Stages, added, begun, Step, PutFault, Faulted, Contains, Told, LostByFault, CERTIFICATE_BYTES, Refusal, Refused}
 use Rattle.ta_shelf.proofs.ShellCommon.{ReadFailed, PutFailed, Memory, SaysLong, SettlesFile, StagedBy, IsOutputOf, OutputStaged, StagedOutput, Unasked, Staged}
 use Rattle.ta_shelf.proofs.ShellCommon.{Lost, output_puts, ShelfState, StagedFile, Begun, IsStagedBy, LeavesRoom, StagedInPart, StagedSoFar}
-use Rattle.ta_shelf.specs.declared.answer.Content.TheVariants.{Bytes}
 use Rattle.ta_shelf.proofs.OutputCalls.{added-append, changed_then, changed_weaker, stages_staging}
 
 -- the call that adds bytes, and all are taken

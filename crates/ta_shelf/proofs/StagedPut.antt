@@ -1,13 +1,13 @@
 -- an output that is staged already is put, or not
+use Rattle.ta_shelf.proofs.Common.{Bytes}
 use Rattle.ta_shelf.proofs.ShellCommon.{◌≡◌, ◌∙◌, ℕ, List, [], ◌∷◌, ◌++◌, Step, Option, Result, Ok, Err, Bor, refl, sym, subst, append-nil, Event, PutCall}
 use Rattle.ta_shelf.proofs.ShellCommon.{arith, length}
 use Rattle.ta_shelf.proofs.ShellCommon.{Puts, Changed, AreStaging, Told, Halt, SinkState, Stages, Settled, SettledCause, PublishesOne, WritesText, OutputStaged}
 use Rattle.ta_shelf.proofs.ShellCommon.{Unasked, Staged, Lost}
-use Rattle.ta_shelf.specs.declared.answer.Content.TheVariants.{Bytes}
-use Rattle.ta_shelf.specs.declared.answer.Put as answer
-use Rattle.ta_shelf.specs.declared.putting.Halt.TheVariants as halt
 use Rattle.ta_shelf.proofs.OutputCalls.{changed_weaker}
 use Rattle.ta_shelf.proofs.Settling.{let_go, log_halted, log_published, log_unstaged}
+use Rattle.ta_shelf.specs.declared.answer.Put as answer
+use Rattle.ta_shelf.specs.declared.putting.Halt.TheVariants as halt
 
 -- a text was written, or not, and no file is put
 wrote : (result : Result (Unit {0}) Halt) (text : List ℕ) (files : Option Told) (out out' : SinkState) → WritesText result text out out'

@@ -16,9 +16,10 @@ pub use Rattle.std.specs.List.{range_with_len}
 pub use Rattle.std.specs.Prelude.{All, IsSomeAnd, int_div, option_to_list, remove, replicate, slice_index, unsigned_abs}
 pub use Rattle.ta_base.proofs.Booleans.{both_ways}
 pub use Rattle.ta_base.proofs.Integers.{at_least_one, expand, ge-zero_of_mul, lt-zero_of_mul, mul-ge-zero, mul-le-zero, mul-le-zero_turned, mul-lt-zero}
+pub use Rattle.ta_base.proofs.Integers.{minus_fits}
 pub use Rattle.ta_base.proofs.Integers.{positive_prop, quotient_whole, single, single-at, single-elsewhere, single-le, times_zero, unsigned_abs-neg}
 pub use Rattle.ta_base.proofs.Integers.{zero_from_bits, zero_minus, zero_or_not}
-pub use Rattle.ta_base.proofs.Lists.{get-set_other, get-set_same, get_end, map_same, range_split, slice_get_before, fewer_alike}
+pub use Rattle.ta_base.proofs.Lists.{get-set_other, get-set_same, get_end, map_same, range_split, slice_get_before, fewer_alike, zeros_past}
 pub use Rattle.ta_base.proofs.Naturals.{pigeon, switches}
 pub use Rattle.ta_base.proofs.Sums.{range_sum-front, range_sum-same, sum-add, sum-single, sum-split, sum-sub, sum-upto, sum-zero}
 unfoldable pub use Rattle.ta_base.proofs.Sums.{range_sum, sum_between}
@@ -60,3 +61,16 @@ pub use Rattle.ta_simplex.specs.Vertex.{AreZeros, GivesValues, IsVertex, MeetRow
 pub use Rattle.ta_simplex.specs.declared.fraction.Fraction.{Fraction}
 pub use mir.Syntax.{w128}
 pub use mir.Val.{SFits, of_z}
+pub use Rattle.std.specs.Int.{w16}
+pub use Rattle.ta_dense.proofs.Unique.{unique_row}
+pub use Rattle.ta_revised.proofs.RevisedLaws.{revised_laws}
+pub use Rattle.ta_revised.specs.Bounds.{IsBound}
+pub use Rattle.ta_revised.specs.Chosen.{IsRowOf, LeavingIs}
+pub use Rattle.ta_revised.specs.Laws.{RevisedLaws}
+pub use Rattle.ta_revised.specs.Modest.{AreModestRows, IsModest, IsModestRow}
+pub use Rattle.ta_revised.specs.Narrow.{narrow_view}
+pub use Rattle.ta_revised.specs.Negative.{FirstHold}
+pub use Rattle.ta_revised.specs.Revised.{grown}
+pub use Rattle.ta_revised.specs.UnknownRows.{unit_row, AreAfter}
+pub use Rattle.ta_revised.specs.Valid.{IsRevised}
+pub use Rattle.ta_simplex.specs.RevisedRuns.{IsUnderWay, RunsModestly, AreRevisedValues, IsStuckAt}

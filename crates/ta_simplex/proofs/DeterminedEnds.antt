@@ -2,7 +2,6 @@
 use Rattle.ta_simplex.proofs.Common.{◌≡◌, inl, inr, ℕ, List, length, refl, sym, ap, subst, ℤ, System, Tableau, slack_tableau, variables, IsAssignment}
 use Rattle.ta_simplex.proofs.Common.{SameNumbers, EndsAreDetermined, NoneLeaves, Reached, Stuck, OverflowsAt, IsRefuted, IsVertex, GivesValues, Fraction}
 use Rattle.ta_simplex.specs.declared.End.{End}
-use Rattle.ta_simplex.specs.declared.End.TheVariants as end
 use Rattle.ta_simplex.specs.Ends.{IsEnd}
 use Rattle.ta_simplex.proofs.Choose.{same_row}
 use Rattle.ta_simplex.proofs.RunLemmas.{reached_dictionary}
@@ -10,6 +9,7 @@ use Rattle.ta_simplex.proofs.DeterminedTableau.{SameStart, same_start}
 use Rattle.ta_simplex.proofs.DeterminedSteps.{end_same, stuck_leaves, ends_within, overflow_once}
 use Rattle.ta_simplex.proofs.DeterminedMultipliers.{RowGives, row_multipliers_once}
 use Rattle.ta_simplex.proofs.DeterminedValues.{values_once}
+use Rattle.ta_simplex.specs.declared.End.TheVariants as end
 
 -- what a refutation says of the tableau with which solving begins
 record Refutation (unknowns count : ℕ) (start : Tableau) (ts : List (ℕ × ℤ)) : Type 0 where

@@ -1,12 +1,12 @@
 -- a refutation has multipliers for the stuck row's own slack and for non-basic slacks alone: at most one more than there are columns
 use Rattle.ta_simplex.proofs.Common.{◌≡◌, ◌⊎◌, inl, inr, ℕ, zero, suc, ◌+◌, ◌<◌, ◌≤◌, List, [], ◌∷◌, length, get_or, eqb, arith, refl, sym, ap, ◌∙◌, ℤ, pos}
 use Rattle.ta_simplex.proofs.Common.{◌≤ℤ◌, cases_lt, cases_eq, ints, length-set, length-range_with_len, pigeon, coefficient, AreMultipliers, System, Tableau}
-use Rattle.ta_simplex.proofs.Common.{basic_of, non_basic_of, slack_tableau, DictionaryOf, Reached, GivesMultipliers, MultipliersAreFew}
+use Rattle.ta_simplex.proofs.Common.{basic_of, non_basic_of, slack_tableau, DictionaryOf, Reached, GivesMultipliers, MultipliersAreFew, single-at}
 use Rattle.std.proofs.Common.{eqb-true, not}
 use Rattle.std.specs.List.{position_or_len}
 use Rattle.std.proofs.lemmas.Bool.{eqb-false}
 use Rattle.std.proofs.lemmas.List.Sums.{fails_before_first, passes_at_first, prefix_len-le-length}
-use Rattle.ta_base.proofs.Integers.{single, single-at, single-natural}
+use Rattle.ta_base.proofs.Integers.{single, single-natural}
 use Rattle.ta_simplex.proofs.RunLemmas.{reached_dictionary}
 
 -- the first place of a number in a list, and the length where it is in none

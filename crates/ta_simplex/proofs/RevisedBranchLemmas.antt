@@ -1,7 +1,7 @@
 -- the systems of a branch by revised dictionaries: fewer, over other rows, one more, and the last of them
-use Rattle.ta_simplex.proofs.Common.{◌≡◌, ℕ, zero, suc, ◌≤◌, List, [], ◌∷◌, ◌++◌, length, take, drop, fewer_alike, reverse, arith, sym, ap, ◌∙◌}
-use Rattle.ta_simplex.proofs.Common.{subst, Option, Some, None, option_to_list, remove, append-nil, reverse-append, length-take-le, take-append-drop}
-use Rattle.ta_simplex.proofs.Common.{Row, System, Tableau, AllBelow, BeginsSystem}
+use Rattle.ta_simplex.proofs.Common.{◌≡◌, ℕ, zero, suc, ◌≤◌, List, [], ◌∷◌, ◌++◌, length, take, drop, fewer_alike, reverse, arith, sym, ap, ◌∙◌, subst, Option}
+use Rattle.ta_simplex.proofs.Common.{Some, None, option_to_list, remove, append-nil, reverse-append, length-take-le, take-append-drop, Row, System, Tableau}
+use Rattle.ta_simplex.proofs.Common.{AllBelow, BeginsSystem, IsUnderWay}
 use Rattle.std.proofs.Math.Seq.{take-length}
 use Rattle.std.proofs.lemmas.List.{take-take, take_all}
 use Rattle.ta_revised.proofs.ShortFacts.{short_count}
@@ -9,7 +9,7 @@ use Rattle.ta_revised.specs.Negative.{NoneNegativeAt}
 use Rattle.ta_revised.specs.ShortRows.{AreShort}
 use Rattle.ta_revised.specs.declared.short_rows.ShortRows.{ShortRows}
 use Rattle.ta_simplex.specs.declared.revised_branch.RevisedStanding.{RevisedStanding}
-use Rattle.ta_simplex.specs.RevisedRuns.{AreRevised, IsUnderWay, RevisedFits, StandsRevised}
+use Rattle.ta_simplex.specs.RevisedRuns.{AreRevised, RevisedFits, StandsRevised}
 
 -- the first of some items are no more than asked for
 length-take-most : {X : Type 0} (n : ℕ) (xs : List X) → length (take n xs) ≤ n
@@ -84,10 +84,6 @@ short_shared s t rows other same e a cut =
     ∙ take-take (length t.rows.items) same all few ∙ take-take (length t.rows.items) (length s.rows.items) rows less
     ∙ fewer_alike (length t.rows.items) same rows other few e in
     subst (AreShort t) here first
-
--- none of any rows
-pub short_none : (s : ShortRows) (rows : List Row) → AreShort s [] → AreShort s (take (length s.rows.items) rows)
-short_none s rows a = rw (short_count s [] a) a
 
 -- a system, with another name of how many unknowns it has
 record SameSystem (s : System) (unknowns : ℕ) (d : Tableau) : Type 0 where

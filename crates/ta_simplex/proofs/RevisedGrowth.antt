@@ -1,24 +1,17 @@
 -- the unknowns' rows where a run begins, and those of a longer system
 use Rattle.ta_simplex.proofs.Common.{◌≡◌, inl, inr, ℕ, zero, suc, ◌+◌, ◌-◌, ◌^◌, ◌<◌, ◌≤◌, List, [], ◌++◌, length, map, get_or, drop, arith, refl, sym, ap, ◌∙◌}
-use Rattle.ta_simplex.proofs.Common.{subst, ℤ, pos, replicate, range_with_len, cases_lt, cases_eq, length-map, length-append, length-range_with_len}
-use Rattle.ta_simplex.proofs.Common.{get_or-map, get_or_append_left, get_or-append_right, System, Row, Tableau, TableauRow, no_row, row_of, basic_of}
-use Rattle.ta_simplex.proofs.Common.{non_basic_of}
+use Rattle.ta_simplex.proofs.Common.{subst, ℤ, pos, replicate, range_with_len, cases_lt, cases_eq, length-map, length-append, length-range_with_len, get_or-map}
+use Rattle.ta_simplex.proofs.Common.{get_or_append_left, get_or-append_right, System, Row, Tableau, TableauRow, no_row, row_of, basic_of, non_basic_of}
 use Rattle.ta_simplex.proofs.Common.{slack_tableau, variables, IsAssignment, DictionaryOf, KeptPivot, kept_at, chosen_row, carried, StayInRange, RowsMergeBelow}
-use Rattle.ta_simplex.proofs.Common.{raised, widened, extended, MakesPivot, BeginsSystem, Follows, tableau_after}
+use Rattle.ta_simplex.proofs.Common.{raised, widened, extended, MakesPivot, BeginsSystem, Follows, tableau_after, unsigned_abs, IsBound, unique_row, unit_row}
+use Rattle.ta_simplex.proofs.Common.{RevisedLaws, AreModestRows, IsModest, IsModestRow, grown, IsRevised, IsUnderWay, RunsModestly}
 use Rattle.std.proofs.lemmas.List.Elements.{All-append, All-replicate}
 use Rattle.std.proofs.lemmas.List.FromFn.{get_or-range_with_len, get_or-map-range_with_len}
-use Rattle.std.specs.Prelude.{unsigned_abs}
-use Rattle.ta_revised.specs.Bounds.{AreBounded, IsBound}
+use Rattle.ta_revised.specs.Bounds.{AreBounded}
 use Rattle.ta_dense.specs.Inside.Padded.{zero_filled}
 use Rattle.ta_dense.specs.Valid.{IsDictionaryRow}
-use Rattle.ta_dense.proofs.Unique.{unique_row}
-use Rattle.ta_revised.specs.UnknownRows.{unit_row}
-use Rattle.ta_revised.specs.Laws.{RevisedLaws}
-use Rattle.ta_revised.specs.Modest.{AreModestRows, IsModest, IsModestRow}
-use Rattle.ta_revised.specs.Revised.{first_rows, grown, unit_rows}
-use Rattle.ta_revised.specs.Valid.{IsRevised}
+use Rattle.ta_revised.specs.Revised.{first_rows, unit_rows}
 use Rattle.ta_revised.proofs.UnitRow.{unit_filled, length_unit_rows}
-use Rattle.ta_simplex.specs.RevisedRuns.{IsUnderWay, RunsModestly}
 use Rattle.ta_simplex.proofs.RunLemmas.{reached_dictionary}
 use Rattle.ta_simplex.proofs.RunSteps.{follows_dictionary}
 use Rattle.ta_simplex.proofs.FollowLemmas.{follows_none, follows_reached}

@@ -1,11 +1,8 @@
 -- values and multipliers from the rows of the unknowns, place by place
 use Rattle.ta_simplex.proofs.Common.{◌≡◌, inl, inr, ℕ, ◌+◌, ◌^◌, ◌<◌, ◌≤◌, List, [], ◌∷◌, ◌++◌, length, get_or, arith, refl, sym, ◌∙◌, subst, ℤ, pos, neg_ℤ}
-use Rattle.ta_simplex.proofs.Common.{ints}
-use Rattle.ta_simplex.proofs.Common.{replicate, cases_lt, length-append, Option, IsSomeAnd, get_end, slice_get_before, System, Tableau, TableauRow, row_of}
-use Rattle.ta_simplex.proofs.Common.{non_basic_of, variables, InRange, Fraction, ValueIs, put, FillSlots}
-use Rattle.ta_revised.specs.Bounds.{IsBound}
+use Rattle.ta_simplex.proofs.Common.{ints, replicate, cases_lt, length-append, Option, IsSomeAnd, get_end, slice_get_before, System, Tableau, TableauRow}
+use Rattle.ta_simplex.proofs.Common.{row_of, non_basic_of, variables, InRange, Fraction, ValueIs, put, FillSlots, IsBound, AreRevisedValues, IsStuckAt}
 use Rattle.ta_revised.proofs.Bounded.{cell_le}
-use Rattle.ta_simplex.specs.RevisedRuns.{AreRevisedValues, IsStuckAt}
 use Rattle.ta_simplex.proofs.SlotLemmas.{Filled, fill-first, fill-next, fill-last}
 
 -- one value more

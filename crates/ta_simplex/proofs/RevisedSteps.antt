@@ -1,18 +1,14 @@
 -- one step of a run by the rows of the unknowns
-use Rattle.ta_simplex.proofs.Common.{◌≡◌, inl, inr, ℕ, ◌+◌, ◌^◌, ◌<◌, List, [], ◌∷◌, ◌++◌, length, set, get_or_append_left, arith, refl, sym, ap, ◌∙◌}
-use Rattle.ta_simplex.proofs.Common.{subst, Option, Some, None, IsSomeAnd, slice_get, cases_lt, length-append, System, Tableau, TableauRow, row_of, basic_of}
+use Rattle.ta_simplex.proofs.Common.{◌≡◌, inl, inr, ℕ, ◌+◌, ◌^◌, ◌<◌, List, [], ◌∷◌, ◌++◌, length, set, get_or_append_left, arith, refl, sym, ap, ◌∙◌, subst}
+use Rattle.ta_simplex.proofs.Common.{Option, Some, None, IsSomeAnd, slice_get, cases_lt, length-append, System, Tableau, TableauRow, row_of, basic_of}
 use Rattle.ta_simplex.proofs.Common.{non_basic_of, pivoted, slack_tableau, variables, IsAssignment, no_pivot, pivot_in, Enters, NoneEnters, Leaves}
-use Rattle.ta_simplex.proofs.Common.{AllMergeInRange, tableau_after, Fraction, ValueIs, GivesValues, AreLeafMultipliers, IsRefuted, IsVertex, ℤ}
-use Rattle.ta_revised.specs.Bounds.{IsBound}
-use Rattle.ta_dense.proofs.Unique.{unique_row}
-use Rattle.ta_revised.specs.UnknownRows.{AreAfter, unit_row}
+use Rattle.ta_simplex.proofs.Common.{AllMergeInRange, tableau_after, Fraction, ValueIs, GivesValues, AreLeafMultipliers, IsRefuted, IsVertex, ℤ, IsBound}
+use Rattle.ta_simplex.proofs.Common.{unique_row, AreAfter, unit_row, IsRowOf, LeavingIs, IsModest, IsRevised, RevisedLaws, AreRevisedValues, IsStuckAt}
+use Rattle.ta_simplex.proofs.Common.{IsUnderWay, RunsModestly}
 use Rattle.ta_revised.specs.Scale.{IsScale}
 use Rattle.ta_revised.specs.Slack.{slack_row_over}
-use Rattle.ta_revised.specs.Chosen.{EntersBy, IsRowOf, LeavingIs, NoneEntersBy}
-use Rattle.ta_revised.specs.Modest.{IsModest}
-use Rattle.ta_revised.specs.Valid.{IsRevised}
-use Rattle.ta_revised.specs.Laws.{LeavesAs, RevisedLaws}
-use Rattle.ta_simplex.specs.RevisedRuns.{AreRevisedValues, IsStuckAt, IsUnderWay, RunsModestly}
+use Rattle.ta_revised.specs.Chosen.{EntersBy, NoneEntersBy}
+use Rattle.ta_revised.specs.Laws.{LeavesAs}
 use Rattle.ta_simplex.proofs.FollowLemmas.{after_same, follows_push, follows_reached}
 use Rattle.ta_simplex.proofs.VertexLemmas.{values_meet_rows}
 

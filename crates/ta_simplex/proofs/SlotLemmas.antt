@@ -3,8 +3,7 @@ use Rattle.ta_simplex.proofs.Common.{◌≡◌, ◌≢◌, ◌⊎◌, inl, inr, 
 use Rattle.ta_simplex.proofs.Common.{sym, ap, ◌∙◌, ℤ, pos, ◌≤ℤ◌, neg_ℤ, get_or-set_same, get_or-set_other, cases_lt, cases_eq, nat_tests, eqb_tells, ints}
 use Rattle.ta_simplex.proofs.Common.{length-set, at_least_one, unsigned_abs-neg, InRange, coefficient, AreMultipliers, IsNormal-push, IsNormal-higher}
 use Rattle.ta_simplex.proofs.Common.{coefficient-append, coefficient-above, Tableau, row_of, cell_of, basic_of, non_basic_of, NoneEnters, IsBasis, slot, put}
-use Rattle.ta_simplex.proofs.Common.{AreNatural, FillSlots, ListsSlots, replicate, length-replicate}
-use Rattle.ta_base.proofs.Lists.{zeros_past}
+use Rattle.ta_simplex.proofs.Common.{AreNatural, FillSlots, ListsSlots, replicate, length-replicate, zeros_past}
 
 -- what a place holds after a number is put
 after_set : (ms : List ℤ) (p k : ℕ) (m : ℤ) → p < length ms → ((k ≡ p) × (slot (set ms p m) k ≡ m)) ⊎ ((k ≢ p) × (slot (set ms p m) k ≡ slot ms k))

@@ -2,8 +2,8 @@
 use Rattle.ta_simplex.proofs.Common.{◌≡◌, ℕ, zero, suc, ◌<◌, ◌≤◌, List, [], ◌∷◌, ◌++◌, length, map, set, arith, refl, ap, ◌∙◌, ℤ, pos, negsuc, ◌*ℤ◌, ◌-ℤ◌}
 use Rattle.ta_simplex.proofs.Common.{unsigned_abs, int_div, replicate, map-append, length-map, set-append_left, get_or_append_left, times_zero, TableauRow}
 use Rattle.ta_simplex.proofs.Common.{combine, cell_of, gcd_with, merged, merged_at, merged_by, reduced, divided, divisor_of, factor_divisor, turned, widened}
-use Rattle.ta_simplex.proofs.Common.{raised, record_same, neg_ℤ, zero-div}
-use Rattle.ta_base.proofs.Lists.{map-replicate, zeros_past}
+use Rattle.ta_simplex.proofs.Common.{raised, record_same, neg_ℤ, zero-div, zeros_past}
+use Rattle.ta_base.proofs.Lists.{map-replicate}
 use Rattle.ta_linear.specs.Gcd.{gcd_of}
 use Rattle.ta_linear.proofs.GcdLemmas.{gcd_of-zero}
 use Rattle.ta_dense.proofs.PivotLaws.{length-combine}

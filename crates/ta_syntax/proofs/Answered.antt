@@ -1,26 +1,17 @@
 -- What the parser answers of the tokens of a file: they are those of a tree within the limits, or there is a first error.
-use Rattle.std.proofs.Common.{refl, ap, sym, subst, ◌≡◌, ◌∙◌, ◌++◌, ◌≤◌, ℕ, true, false, List, [], ◌∷◌, length, arith, append_assoc, Ok, Err}
-use Rattle.std.proofs.lemmas.List.{append-nil}
-use Rattle.ta_base.specs.declared.limits.Limits.{Limits}
-use Rattle.ta_syntax.specs.AnswerLaws.{Either, StopsReading}
-use Rattle.ta_syntax.specs.declared.fault.FileFault.TheVariants as fault
-use Rattle.ta_syntax.specs.Grammar.{PlainTree, IsTree, FileText, file_kinds}
-use Rattle.ta_syntax.specs.Limits.{Counts, at_start, run, StaysWithin, IsDeep, IsMany}
-use Rattle.ta_syntax.specs.Faults.{kinds, SameStart, offset_of, Refuses, IsWrong, IsPast}
-use Rattle.ta_syntax.specs.declared.tokens.Kind.{Kind}
-use Rattle.ta_syntax.specs.declared.placed.Token.{Token}
-use Rattle.ta_syntax.specs.Productions.{wrong, many, deep, Parsed, parse}
-use Rattle.ta_syntax.specs.FileGrammar.{file}
+use Rattle.ta_syntax.proofs.Common.{refl, ap, sym, subst, ◌≡◌, ◌∙◌, ◌++◌, ◌≤◌, ℕ, true, false, List, [], ◌∷◌, length, arith, append_assoc, Ok, Err, append-nil}
+use Rattle.ta_syntax.proofs.Common.{Limits, Either, StopsReading, PlainTree, IsTree, FileText, file_kinds, Counts, at_start, run, StaysWithin, IsDeep, IsMany}
+use Rattle.ta_syntax.proofs.Common.{kinds, SameStart, offset_of, IsWrong, IsPast, Kind, Token, wrong, many, deep, Parsed, parse, file, AllByRecursion, IsKind}
+use Rattle.ta_syntax.proofs.Common.{IsTreeWithin, counted_after}
+use Rattle.ta_syntax.specs.Faults.{Refuses}
 use Rattle.ta_syntax.proofs.Parsing.{Spans, Agrees, Goes, GoesOn, goes, IsRead, is_read, false_true}
 use Rattle.ta_syntax.proofs.Halting.{Said, Read, Halted}
-use Rattle.std.specs.List.{AllByRecursion}
-use Rattle.ta_syntax.specs.Kinds.{IsKind}
-use Rattle.ta_syntax.specs.Limits.{IsTreeWithin, counted_after}
 use Rattle.ta_syntax.proofs.UniqueTrees.{file_unique}
 use Rattle.ta_syntax.proofs.FileReady.{ready_file}
 use Rattle.ta_syntax.proofs.FileSpans.{t_file, file_legal}
 use Rattle.ta_syntax.proofs.FileCounts.{says_file}
 use Rattle.ta_syntax.proofs.Counting.{kinds-append}
+use Rattle.ta_syntax.specs.declared.fault.FileFault.TheVariants as fault
 
 -- ---- tokens and kinds
 

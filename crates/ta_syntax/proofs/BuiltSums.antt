@@ -6,12 +6,12 @@ use Rattle.ta_syntax.proofs.Common.{signed_sum, unplaced_sign, sum_stated, sum_t
 use Rattle.ta_syntax.proofs.Common.{Spelled, TreeSum, TreeTerm, TreeFactor, Named, Nested, TreeSum-F, roll-TreeSum, roll-TreeTerm}
 use Rattle.std.specs.Global.{Vec}
 use denote.RawPtr.{null_ptr}
-use Rattle.ta_syntax.specs.declared.tokens.Kind.TheVariants as kind
-use Rattle.ta_syntax.specs.declared.tokens.Mark.TheVariants as mark
-use Rattle.ta_syntax.specs.declared.sums.Sign.TheVariants as sign
 use Rattle.ta_syntax.proofs.SumSteps.{plain_sum_roll, plain_number, plain_times, plain_alone, plain_named, plain_nested, stated_number, stated_times}
 use Rattle.ta_syntax.proofs.SumSteps.{stated_alone, stated_named, stated_nested, stated_sum_roll, pairs}
 use Rattle.ta_base.proofs.Lists.{empty-not, empty_left}
+use Rattle.ta_syntax.specs.declared.tokens.Kind.TheVariants as kind
+use Rattle.ta_syntax.specs.declared.tokens.Mark.TheVariants as mark
+use Rattle.ta_syntax.specs.declared.sums.Sign.TheVariants as sign
 
 -- a list of the program with these items; where it lies in memory doesn't matter
 abbrev pub vec_of : {A : Type 0} (xs : List A) → length xs < 2 ^ 63 → Vec A

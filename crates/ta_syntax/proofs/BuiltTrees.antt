@@ -1,19 +1,18 @@
 -- A text of the grammar within the limits has a tree of the program.
 use Rattle.ta_syntax.proofs.Common.{◌≡◌, ℕ, ◌+◌, ◌≤◌, Bool, true, false, List, [], ◌∷◌, ◌++◌, length, map, refl, sym, ap, ap₂, subst, ◌∙◌, arith, length-append}
-use Rattle.ta_syntax.proofs.Common.{AllByRecursion, all_both, length_of_map, IsNameText, kind_bytes, PlainComparison}
-use Rattle.ta_syntax.proofs.Common.{PlainTree, sum_kinds, relation_kind, listed, further, led, ended, each, name_kinds, initial_kinds, location_kinds}
-use Rattle.ta_syntax.proofs.Common.{comparison_kinds, update_kinds, rule_kinds, event_kinds, pattern_kinds, file_kinds, IsSum, IsSome, IsComparison, IsUpdate}
-use Rattle.ta_syntax.proofs.Common.{IsRule, IsEvent, IsPattern, IsTree, plain_sum, sum_depth, plain_name, plain_comparison, plain_location, plain_update}
-use Rattle.ta_syntax.proofs.Common.{plain_rule, plain_event, plain_pattern, plain_tree, Offsets, IsPlaced, at_first, unplaced, sum_stated, name_stated}
-use Rattle.ta_syntax.proofs.Common.{initial_stated, location_stated, comparison_stated, update_stated, rule_stated, event_stated, pattern_stated, tree_stated}
-use Rattle.ta_syntax.proofs.Common.{IsShallow, IsRuleWithin, IsEventWithin, IsPatternWithin, IsTreeWithin, kinds, offset_of, ScansTo, IsLastGap, IsTextOf}
-use Rattle.ta_syntax.proofs.Common.{IsDigits, IsTreeOf, Kind, Mark, Relation, Token, Tree, Digits}
-use Rattle.ta_base.specs.declared.limits.Limits.{Limits}
-use Rattle.ta_syntax.specs.declared.tokens.Kind.TheVariants as kind
-use Rattle.ta_syntax.specs.declared.tokens.Mark.TheVariants as mark
+use Rattle.ta_syntax.proofs.Common.{AllByRecursion, all_both, length_of_map, IsNameText, kind_bytes, PlainComparison, PlainTree, sum_kinds, relation_kind}
+use Rattle.ta_syntax.proofs.Common.{listed, further, led, ended, each, name_kinds, initial_kinds, location_kinds, comparison_kinds, update_kinds, rule_kinds}
+use Rattle.ta_syntax.proofs.Common.{event_kinds, pattern_kinds, file_kinds, IsSum, IsSome, IsComparison, IsUpdate, IsRule, IsEvent, IsPattern, IsTree}
+use Rattle.ta_syntax.proofs.Common.{plain_sum, sum_depth, plain_name, plain_comparison, plain_location, plain_update, plain_rule, plain_event, plain_pattern}
+use Rattle.ta_syntax.proofs.Common.{plain_tree, Offsets, IsPlaced, at_first, unplaced, sum_stated, name_stated, initial_stated, location_stated}
+use Rattle.ta_syntax.proofs.Common.{comparison_stated, update_stated, rule_stated, event_stated, pattern_stated, tree_stated, IsShallow, IsRuleWithin}
+use Rattle.ta_syntax.proofs.Common.{IsEventWithin, IsPatternWithin, IsTreeWithin, kinds, offset_of, ScansTo, IsLastGap, IsTextOf, IsDigits, IsTreeOf, Kind}
+use Rattle.ta_syntax.proofs.Common.{Mark, Relation, Token, Tree, Digits, Limits}
 use Rattle.ta_syntax.proofs.BuiltSums.{tail, before, behind, Small, small_tail, small_before, small_behind, kinds_tail, kinds_before, kinds_behind, placed_mark}
 use Rattle.ta_syntax.proofs.BuiltSums.{placed_name, placed_last, placed_none, placed_first, placed_both, sum_built}
 use Rattle.ta_syntax.proofs.Scans.{kind_some}
+use Rattle.ta_syntax.specs.declared.tokens.Kind.TheVariants as kind
+use Rattle.ta_syntax.specs.declared.tokens.Mark.TheVariants as mark
 
 abbrev fixed : Mark → Kind
 fixed m = kind.Fixed m

@@ -1,11 +1,10 @@
 -- Reading lists that may be absent.
-use Rattle.ta_syntax.proofs.Common.{◌≡◌, ℕ, ◌≤◌, List, [], ◌∷◌, ◌++◌, sym, subst, arith, listed, led, ended, Offsets, unplaced, Kind, Mark, Token}
+use Rattle.ta_syntax.proofs.Common.{◌≡◌, ℕ, ◌≤◌, List, [], ◌∷◌, ◌++◌, sym, subst, arith, listed, led, ended, Offsets, unplaced, Kind, Mark, Token, Production}
+use Rattle.ta_syntax.proofs.Common.{TookSome, TookUpTo, BeginsWithKind, IsOther}
+use Rattle.ta_syntax.proofs.Steps.{then, past, chosen, not_chosen, take_mark, stands_mark, other_mark, maybe_taken, maybe_skipped}
 use Rattle.ta_syntax.specs.declared.tokens.Kind.TheVariants as kind
 use Rattle.ta_syntax.specs.declared.tokens.Mark.TheVariants as mark
-use Rattle.ta_syntax.specs.Productions.{Production}
 use Rattle.ta_syntax.specs.FileGrammar as grammar
-use Rattle.ta_syntax.specs.Reading.{TookSome, TookUpTo, BeginsWithKind, IsOther}
-use Rattle.ta_syntax.proofs.Steps.{then, past, chosen, not_chosen, take_mark, stands_mark, other_mark, maybe_taken, maybe_skipped}
 
 module _ {A : Type 0} (g : Production) (spelled : A → List Kind) (stated : A → List Offsets) (limit : ℕ) (m : Mark) where
   abbrev Led : List A → List Token → List Token → Type 0

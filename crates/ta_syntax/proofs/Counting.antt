@@ -1,10 +1,5 @@
 -- The kinds and the counts of tokens, one list after another.
-use Rattle.std.proofs.Common.{◌≡◌, refl, ap, List, [], ◌∷◌, ◌++◌}
-use Rattle.ta_base.specs.declared.limits.Limits.{Limits}
-use Rattle.ta_syntax.specs.Faults.{kinds}
-use Rattle.ta_syntax.specs.Limits.{Counts, run, counted_after, StaysWithin}
-use Rattle.ta_syntax.specs.declared.tokens.Kind.{Kind}
-use Rattle.ta_syntax.specs.declared.placed.Token.{Token}
+use Rattle.ta_syntax.proofs.Common.{◌≡◌, refl, ap, List, [], ◌∷◌, ◌++◌, Limits, kinds, Counts, run, counted_after, StaysWithin, Kind, Token}
 
 pub kinds-append : (a b : List Token) → kinds (a ++ b) ≡ kinds a ++ kinds b
 kinds-append [] b = refl

@@ -1,23 +1,18 @@
 -- The limits of the productions are those that the scan over the tokens counts.
-use Rattle.std.proofs.Common.{refl, ap, sym, subst, ◌≡◌, ◌∙◌, ◌≤◌, ◌<◌, ◌+◌, ◌-◌, inl, inr, ℕ, zero, suc, true, arith}
-use Rattle.ta_base.specs.declared.limits.Limits.{Limits}
-use Rattle.ta_syntax.specs.Grammar.{relation_kind, sign_kind}
-use Rattle.ta_syntax.specs.Limits.{Counts, at_start, counted_after, after_mark, begin_list, IsDeep, IsMany, IsBlockPast}
-use Rattle.ta_syntax.specs.declared.sums.Sign.{Sign}
-use Rattle.ta_syntax.specs.declared.sums.Sign.TheVariants as sign
-use Rattle.ta_syntax.specs.declared.tokens.Kind.{Kind}
-use Rattle.ta_syntax.specs.declared.tokens.Kind.TheVariants as kind
-use Rattle.ta_syntax.specs.declared.tokens.Mark.{Mark}
-use Rattle.ta_syntax.specs.declared.tokens.Mark.TheVariants as mark
-use Rattle.ta_syntax.specs.declared.tokens.Relation.{Relation}
-use Rattle.ta_syntax.specs.declared.tokens.Relation.TheVariants as relation
-use Rattle.ta_syntax.specs.Productions.{Class, code, has, only, names, numbers, Production, one, both, repeat, first, deep, many}
-use Rattle.ta_syntax.specs.FileGrammar.{a_mark, a_name, signs, relations, maybe, term_with, sum_with, nested_with, free_factor, factor, a_sum, further}
-use Rattle.ta_syntax.specs.FileGrammar.{items, blocks, list_end, led, ended, declared_list, location, update, comparison, name_then, rule, event, pattern, head}
-use Rattle.ta_syntax.specs.FileGrammar.{file}
+use Rattle.ta_syntax.proofs.Common.{refl, ap, sym, subst, ◌≡◌, ◌∙◌, ◌≤◌, ◌<◌, ◌+◌, ◌-◌, inl, inr, ℕ, zero, suc, true, arith, Limits, relation_kind, sign_kind}
+use Rattle.ta_syntax.proofs.Common.{Counts, at_start, counted_after, after_mark, begin_list, IsDeep, IsMany, IsBlockPast, Sign, Kind, Mark, Relation, Class}
+use Rattle.ta_syntax.proofs.Common.{code, has, only, names, numbers, Production, one, both, repeat, first, deep, many, a_mark, a_name, signs, relations, maybe}
+use Rattle.ta_syntax.proofs.Common.{term_with, sum_with, nested_with, free_factor, factor, a_sum, items, blocks, list_end, declared_list, location, update}
+use Rattle.ta_syntax.proofs.Common.{comparison, rule, event, pattern, file}
+use Rattle.ta_syntax.specs.FileGrammar.{further}
+use Rattle.ta_syntax.specs.FileGrammar.{led, ended, name_then, head}
 use Rattle.ta_syntax.proofs.Parsing.{inside, false_true}
 use Rattle.ta_syntax.proofs.Halting.{Alive, Passes, Says, says_as, says_each, says_nothing, says_one, says_both, says_choose, says_repeat, says_barred}
 use Rattle.ta_syntax.proofs.FileSpans.{only_is, sign_is, relation_is, no_mark}
+use Rattle.ta_syntax.specs.declared.sums.Sign.TheVariants as sign
+use Rattle.ta_syntax.specs.declared.tokens.Kind.TheVariants as kind
+use Rattle.ta_syntax.specs.declared.tokens.Mark.TheVariants as mark
+use Rattle.ta_syntax.specs.declared.tokens.Relation.TheVariants as relation
 
 -- ---- what was counted
 

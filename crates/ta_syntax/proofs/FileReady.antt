@@ -1,12 +1,10 @@
 -- One token of lookahead suffices for automaton files.
-use Rattle.std.proofs.Common.{refl, sym, subst, ◌≡◌, ℕ, zero, suc, true, false, []}
-use Rattle.ta_base.specs.declared.limits.Limits.{Limits}
-use Rattle.ta_syntax.specs.declared.tokens.Mark.{Mark}
-use Rattle.ta_syntax.specs.declared.tokens.Mark.TheVariants as mark
-use Rattle.ta_syntax.specs.Productions.{Class, joined, Production, one, both, repeat, nullable, first, only, numbers}
-use Rattle.ta_syntax.specs.FileGrammar.{signs, term_with, sum_with, nested_with, free_factor, factor, a_sum, a_name, comparison, further, items, file}
-use Rattle.ta_syntax.specs.FileGrammar.{blocks, list_end, declared_list, location, update, rule, event, pattern, relations}
+use Rattle.ta_syntax.proofs.Common.{refl, sym, subst, ◌≡◌, ℕ, zero, suc, true, false, [], Limits, Mark, Class, joined, Production, one, both, repeat, nullable}
+use Rattle.ta_syntax.proofs.Common.{first, only, numbers, signs, term_with, sum_with, nested_with, free_factor, factor, a_sum, a_name, comparison, items, file}
+use Rattle.ta_syntax.proofs.Common.{blocks, list_end, declared_list, location, update, rule, event, pattern, relations}
+use Rattle.ta_syntax.specs.FileGrammar.{further}
 use Rattle.ta_syntax.proofs.Parsing.{Ready, follow, inside, apart}
+use Rattle.ta_syntax.specs.declared.tokens.Mark.TheVariants as mark
 
 abbrev tail_of : Production → Production
 tail_of F = repeat signs (both (one signs) (term_with F))

@@ -1,35 +1,24 @@
 -- The texts of the productions are those of the grammar's trees.
-use Rattle.std.proofs.Common.{refl, ap, sym, subst, ◌≡◌, ◌∙◌, ◌++◌, ◌⊎◌, ◌≤◌, ◌==◌, inl, inr, ℕ, zero, suc, Bool, true, false, cond, List, [], ◌∷◌}
-use Rattle.std.proofs.Common.{append_assoc}
+use Rattle.ta_syntax.proofs.Common.{refl, ap, sym, subst, ◌≡◌, ◌∙◌, ◌++◌, ◌⊎◌, ◌≤◌, ◌==◌, inl, inr, ℕ, zero, suc, Bool, true, false, cond, List, [], ◌∷◌}
+use Rattle.ta_syntax.proofs.Common.{append_assoc, append-nil, ⊎_elim, arith, length, eqb-true, Option, Some, None, AllByRecursion, Limits, IsKind, IsNameText}
+use Rattle.ta_syntax.proofs.Common.{IsDigits, AreTerms, Factor, IsComparison, IsEvent, IsFactor, IsPattern, IsRule, IsSome, IsSum, IsTerm, IsTree, IsUpdate}
+use Rattle.ta_syntax.proofs.Common.{PlainComparison, PlainEvent, PlainLocation, PlainPattern, PlainRule, PlainTree, Term, Terms, alone, blank, comparison_kinds}
+use Rattle.ta_syntax.proofs.Common.{done, each, event_kinds, factor_kinds, file_kinds, initial_kinds, listed, location_kinds, more_kinds, name_kinds, named}
+use Rattle.ta_syntax.proofs.Common.{nested, number, relation_kind, sign_kind, sum_kinds, term, term_kinds, times, update_kinds, IsShallow, IsRuleWithin}
+use Rattle.ta_syntax.proofs.Common.{IsEventWithin, IsPatternWithin, IsTreeWithin, sum_depth, term_depth, factor_depth, Sign, Kind, Mark, Relation, Class, code}
+use Rattle.ta_syntax.proofs.Common.{mark_code, has, only, names, numbers, Production, nothing, one, both, choose, repeat, barred, a_mark, a_name, a_number}
+use Rattle.ta_syntax.proofs.Common.{signs, relations, maybe, term_with, sum_with, nested_with, free_factor, factor, items, blocks, list_end, declared_list}
+use Rattle.ta_syntax.proofs.Common.{location, update, comparison, rule, event, pattern, file}
 use Rattle.std.specs.Prelude.{max}
-use Rattle.std.proofs.lemmas.List.{append-nil}
-use Rattle.std.proofs.Common.{⊎_elim, arith, length, eqb-true, Option, Some, None}
-use Rattle.std.specs.List.{AllByRecursion}
-use Rattle.ta_base.specs.declared.limits.Limits.{Limits}
 use Rattle.ta_base.specs.LimitRows.{narrow}
-use Rattle.ta_syntax.specs.Kinds.{IsKind, IsNameText, IsDigits}
-use Rattle.ta_syntax.specs.Grammar.{AreTerms, Factor, IsComparison, IsEvent, IsFactor, IsPattern, IsRule, IsSome, IsSum, IsTerm, IsTree, IsUpdate}
-use Rattle.ta_syntax.specs.Grammar.{PlainComparison, PlainEvent, PlainLocation, PlainPattern, PlainRule, PlainTree, Term, Terms, alone, blank}
-use Rattle.ta_syntax.specs.Grammar.{comparison_kinds, done, each, event_kinds, factor_kinds, file_kinds, initial_kinds, listed}
-use Rattle.ta_syntax.specs.Grammar.{location_kinds, more_kinds, name_kinds, named, nested, number, relation_kind, sign_kind}
-use Rattle.ta_syntax.specs.Grammar.{sum_kinds, term, term_kinds, times, update_kinds}
-use Rattle.ta_syntax.specs.Grammar as grammar
-use Rattle.ta_syntax.specs.Limits.{IsShallow, IsRuleWithin, IsEventWithin, IsPatternWithin, IsTreeWithin}
-use Rattle.ta_syntax.specs.PlainSums.{sum_depth, term_depth, factor_depth}
-use Rattle.ta_syntax.specs.declared.sums.Sign.{Sign}
-use Rattle.ta_syntax.specs.declared.sums.Sign.TheVariants as sign
-use Rattle.ta_syntax.specs.declared.tokens.Kind.{Kind}
-use Rattle.ta_syntax.specs.declared.tokens.Kind.TheVariants as kind
-use Rattle.ta_syntax.specs.declared.tokens.Mark.{Mark}
-use Rattle.ta_syntax.specs.declared.tokens.Mark.TheVariants as mark
-use Rattle.ta_syntax.specs.declared.tokens.Relation.{Relation}
-use Rattle.ta_syntax.specs.declared.tokens.Relation.TheVariants as relation
-use Rattle.ta_syntax.specs.Productions.{Class, code, mark_code, has, only, names, numbers, Production, nothing, one, both, choose, repeat, barred}
-use Rattle.ta_syntax.specs.FileGrammar.{a_mark, a_name, a_number, signs, relations, maybe, term_with, sum_with, nested_with, free_factor, factor}
-use Rattle.ta_syntax.specs.FileGrammar.{further, items, blocks, list_end, led, ended, declared_list, location, update, comparison, rule, event}
-use Rattle.ta_syntax.specs.FileGrammar.{pattern, file}
+use Rattle.ta_syntax.specs.FileGrammar.{further, led, ended}
 use Rattle.ta_syntax.proofs.Parsing.{Spans, One, Turns, false_true}
 use Rattle.ta_syntax.proofs.Halting.{marks}
+use Rattle.ta_syntax.specs.Grammar as grammar
+use Rattle.ta_syntax.specs.declared.sums.Sign.TheVariants as sign
+use Rattle.ta_syntax.specs.declared.tokens.Kind.TheVariants as kind
+use Rattle.ta_syntax.specs.declared.tokens.Mark.TheVariants as mark
+use Rattle.ta_syntax.specs.declared.tokens.Relation.TheVariants as relation
 
 -- ---- what the classes say
 

@@ -1,26 +1,21 @@
 -- The tokens of a whole file that was read, and the faults of reading one.
 use Rattle.ta_syntax.proofs.Common.{◌≡◌, ℕ, List, [], ◌∷◌, ◌++◌, map, sym, ap, subst, ◌∙◌, append_assoc, append-nil, listed, each, name_kinds, location_kinds}
 use Rattle.ta_syntax.proofs.Common.{comparison_kinds, update_kinds, rule_kinds, event_kinds, pattern_kinds, file_kinds, sum_kinds, FileText, at_start}
-use Rattle.ta_syntax.proofs.Common.{IsStopped, StaysWithin}
-use Rattle.ta_syntax.proofs.Common.{plain_name, plain_comparison, plain_location, plain_update, plain_rule, plain_event, plain_pattern, plain_sum}
-use Rattle.ta_syntax.proofs.Common.{Offsets, IsPlaced, at_first, unplaced, name_stated, location_stated, sum_stated, comparison_stated}
-use Rattle.ta_syntax.proofs.Common.{rule_stated, pattern_stated, rule_body, event_body, pattern_body}
-use Rattle.ta_syntax.proofs.Common.{spell_name, spell_location, spell_comparison, kinds, Kind, Token, FileFault, Spelled, TreeLocation}
-use Rattle.ta_syntax.proofs.Common.{TreeSum, TreeComparison, TreeRule, TreeEvent, TreePattern}
-use Rattle.ta_base.specs.declared.limits.Limits.{Limits}
+use Rattle.ta_syntax.proofs.Common.{IsStopped, StaysWithin, plain_name, plain_comparison, plain_location, plain_update, plain_rule, plain_event, plain_pattern}
+use Rattle.ta_syntax.proofs.Common.{plain_sum, Offsets, IsPlaced, at_first, unplaced, name_stated, location_stated, sum_stated, comparison_stated, rule_stated}
+use Rattle.ta_syntax.proofs.Common.{pattern_stated, rule_body, event_body, pattern_body, spell_name, spell_location, spell_comparison, kinds, Kind, Token}
+use Rattle.ta_syntax.proofs.Common.{FileFault, Spelled, TreeLocation, TreeSum, TreeComparison, TreeRule, TreeEvent, TreePattern, Limits, Production, wrong}
+use Rattle.ta_syntax.proofs.Common.{many, deep, Step, Took, Halts, with_mark, body, inl, inr}
+use Rattle.ta_syntax.specs.declared.file.Body.{Body}
+use Rattle.ta_syntax.specs.declared.file.Head.{Head}
+use Rattle.ta_syntax.specs.FileReading.{IsBodyFault, body_kinds, body_stated, names_kinds, names_stated, places_kinds, places_stated}
+use Rattle.ta_syntax.proofs.PrintSteps.{listed-map, led-map, ended-map, each-map}
+use Rattle.ta_syntax.proofs.Steps.{halts_by}
+use Rattle.ta_syntax.proofs.Answered.{wrong_there, trailing_there, many_there, deep_there, whole_there}
 use Rattle.ta_syntax.specs.declared.tokens.Kind.TheVariants as kind
 use Rattle.ta_syntax.specs.declared.tokens.Mark.TheVariants as mark
 use Rattle.ta_syntax.specs.declared.fault.FileFault.TheVariants as fault
-use Rattle.ta_syntax.specs.declared.file.Body.{Body}
-use Rattle.ta_syntax.specs.declared.file.Head.{Head}
-use Rattle.ta_syntax.specs.Productions.{Production, wrong, many, deep}
 use Rattle.ta_syntax.specs.FileGrammar as grammar
-use Rattle.ta_syntax.specs.Reading.{Step, Took, Halts, with_mark}
-use Rattle.ta_syntax.specs.FileReading.{IsBodyFault, body, body_kinds, body_stated, names_kinds, names_stated, places_kinds, places_stated}
-use Rattle.ta_syntax.proofs.PrintSteps.{listed-map, led-map, ended-map, each-map}
-use Rattle.ta_syntax.proofs.Steps.{halts_by}
-use Rattle.ta_syntax.proofs.Common.{inl, inr}
-use Rattle.ta_syntax.proofs.Answered.{wrong_there, trailing_there, many_there, deep_there, whole_there}
 
 -- ---- the tokens of blocks without offsets
 pub rule_spelled : (r : TreeRule) → with_mark (kind.Fixed mark.Rule) rule_body r ≡ rule_kinds (plain_rule r)

@@ -1,21 +1,14 @@
 -- Where the parser has come to, the tokens before begin a text, and they are within the limits.
-use Rattle.std.proofs.Common.{refl, ap, sym, subst, ◌≡◌, ◌∙◌, ◌++◌, ◌⊎◌, ◌==◌, inl, inr, ℕ, zero, suc, Bool, true, false, cond, List, [], ◌∷◌, append_assoc, Ok}
-use Rattle.std.proofs.Common.{Err}
+use Rattle.ta_syntax.proofs.Common.{refl, ap, sym, subst, ◌≡◌, ◌∙◌, ◌++◌, ◌⊎◌, ◌==◌, inl, inr, ℕ, zero, suc, Bool, true, false, cond, List, [], ◌∷◌}
+use Rattle.ta_syntax.proofs.Common.{append_assoc, Ok, Err, Limits, IsKind, IsNameText, Counts, run, counted_after, StaysWithin, IsDeep, IsMany, kinds, Kind}
+use Rattle.ta_syntax.proofs.Common.{Mark, Token, Class, code, has, stands, joined, Stop, wrong, many, deep, Production, nothing, one, both, choose, repeat}
+use Rattle.ta_syntax.proofs.Common.{barred, Parsed, followed_by, turns, parse, nullable, first}
 use Rattle.std.proofs.Common.{get_or}
-use Rattle.ta_base.specs.declared.limits.Limits.{Limits}
-use Rattle.ta_syntax.specs.Kinds.{IsKind, IsNameText}
-use Rattle.ta_syntax.specs.Limits.{Counts, run, counted_after, StaysWithin, IsDeep, IsMany}
-use Rattle.ta_syntax.specs.Faults.{kinds}
-use Rattle.ta_syntax.specs.declared.tokens.Kind.{Kind}
-use Rattle.ta_syntax.specs.declared.tokens.Kind.TheVariants as kind
-use Rattle.ta_syntax.specs.declared.tokens.Mark.{Mark}
-use Rattle.ta_syntax.specs.declared.tokens.Mark.TheVariants as mark
-use Rattle.ta_syntax.specs.declared.placed.Token.{Token}
-use Rattle.ta_syntax.specs.Productions.{Class, code, has, stands, joined, Stop, wrong, many, deep, Production, nothing, one, both, choose, repeat, barred}
-use Rattle.ta_syntax.specs.Productions.{Parsed, followed_by, turns, parse, nullable, first}
 use Rattle.ta_syntax.proofs.Parsing.{Spans, inside, false_true, has_inside, and_both}
 use Rattle.ta_syntax.proofs.Counting.{kinds-append, run-append, within-append}
 use Rattle.ta_syntax.proofs.UniqueTokens.{keyword_is}
+use Rattle.ta_syntax.specs.declared.tokens.Kind.TheVariants as kind
+use Rattle.ta_syntax.specs.declared.tokens.Mark.TheVariants as mark
 
 -- ---- each production has a text, and one that begins with each token that may begin it
 

@@ -3,11 +3,10 @@ use Rattle.ta_syntax.proofs.Common.{ℕ, ◌≤◌, List, [], ◌∷◌, length,
 use Rattle.ta_syntax.proofs.Common.{IsPattern, IsTree, plain_name, plain_comparison, plain_location, plain_update, plain_rule, plain_event, plain_pattern}
 use Rattle.ta_syntax.proofs.Common.{plain_tree, at_start, IsShallow, IsRuleWithin, IsEventWithin, IsPatternWithin, IsTreeWithin, AreTokens, ScanStops, FileText}
 use Rattle.ta_syntax.proofs.Common.{IsStopped, FirstGrammarFault, IsSpelled, IsTreeOf, Spelled, TreeComparison, TreeUpdate, TreeRule, TreeEvent, TreePattern}
-use Rattle.ta_syntax.proofs.Common.{Tree, Token, FileFault, each_map_all, subst, StaysWithin}
-use Rattle.ta_base.specs.declared.limits.Limits.{Limits}
+use Rattle.ta_syntax.proofs.Common.{Tree, Token, FileFault, each_map_all, subst, StaysWithin, Limits}
 use Rattle.ta_base.specs.LimitRows.{wide}
-use Rattle.ta_syntax.specs.declared.fault.FileFault.TheVariants as fault
 use Rattle.ta_syntax.proofs.Answered.{tree_limits}
+use Rattle.ta_syntax.specs.declared.fault.FileFault.TheVariants as fault
 
 some_map : {A B : Type 0} (g : A → B) (xs : List A) → 1 ≤ length xs → IsSome (map g xs)
 some_map g [] h = absurd (omega arith)

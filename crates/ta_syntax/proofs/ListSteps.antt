@@ -1,18 +1,15 @@
 -- Reading lists with commas, and blocks behind their keywords.
-use Rattle.ta_syntax.proofs.Common.{◌≡◌, ℕ, zero, suc, ◌+◌, ◌<◌, Bool, true, false, cond, List, [], ◌∷◌, ◌++◌, length, refl, sym, ap, subst, ◌∙◌}
-use Rattle.ta_syntax.proofs.Common.{append_assoc, length-append, arith, append-nil, listed, further, each, Offsets, unplaced, offset_of, Kind, Mark, Token}
-use Rattle.ta_syntax.proofs.Common.{FileFault}
-use Rattle.std.proofs.Common.{Err}
-use Rattle.ta_syntax.specs.declared.tokens.Kind.TheVariants as kind
-use Rattle.ta_syntax.specs.declared.tokens.Mark.TheVariants as mark
-use Rattle.ta_syntax.specs.declared.fault.FileFault.TheVariants as fault
-use Rattle.ta_syntax.specs.Productions.{Production, nothing, both, stands, first, many, wrong, Parsed}
-use Rattle.ta_syntax.specs.FileGrammar.{a_mark, maybe}
-use Rattle.ta_syntax.specs.FileGrammar as grammar
-use Rattle.ta_syntax.specs.Reading.{Step, Took, Halts, TookSome, TookUpTo, BeginsWithKind, IsOther, with_mark}
+use Rattle.ta_syntax.proofs.Common.{◌≡◌, ℕ, zero, suc, ◌+◌, ◌<◌, Bool, true, false, cond, List, [], ◌∷◌, ◌++◌, length, refl, sym, ap, subst, ◌∙◌, append_assoc}
+use Rattle.ta_syntax.proofs.Common.{length-append, arith, append-nil, listed, further, each, Offsets, unplaced, offset_of, Kind, Mark, Token, FileFault, Err}
+use Rattle.ta_syntax.proofs.Common.{Production, nothing, both, stands, first, many, wrong, Parsed, a_mark, maybe, Step, Took, Halts, TookSome, TookUpTo}
+use Rattle.ta_syntax.proofs.Common.{BeginsWithKind, IsOther, with_mark}
 use Rattle.ta_syntax.proofs.Steps.{then, stay, respell, first_of_both, past, chosen, not_chosen, take_mark, stands_mark, other_mark, stops, stops_in}
 use Rattle.ta_syntax.proofs.Steps.{maybe_taken}
 use Rattle.ta_syntax.proofs.Steps.{maybe_skipped}
+use Rattle.ta_syntax.specs.declared.tokens.Kind.TheVariants as kind
+use Rattle.ta_syntax.specs.declared.tokens.Mark.TheVariants as mark
+use Rattle.ta_syntax.specs.declared.fault.FileFault.TheVariants as fault
+use Rattle.ta_syntax.specs.FileGrammar as grammar
 
 -- ---- past the limit
 

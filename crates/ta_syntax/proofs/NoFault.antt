@@ -1,12 +1,10 @@
 -- A text of the grammar within the limits has no error.
-use Rattle.ta_syntax.proofs.Common.{◌≡◌, ℕ, List, length, refl, sym, ap, subst, ◌∙◌, PlainTree, file_kinds, at_start}
-use Rattle.ta_syntax.proofs.Common.{StaysWithin, IsDeep, IsMany, IsTreeWithin, AreTokens, kinds, FirstGrammarFault}
-use Rattle.ta_syntax.proofs.Common.{plain_tree, IsTextOf, IsTreeOf, Tree, Token, FileFault}
-use Rattle.ta_base.specs.declared.limits.Limits.{Limits}
-use Rattle.ta_syntax.specs.declared.fault.FileFault.TheVariants as fault
+use Rattle.ta_syntax.proofs.Common.{◌≡◌, ℕ, List, length, refl, sym, ap, subst, ◌∙◌, PlainTree, file_kinds, at_start, StaysWithin, IsDeep, IsMany, IsTreeWithin}
+use Rattle.ta_syntax.proofs.Common.{AreTokens, kinds, FirstGrammarFault, plain_tree, IsTextOf, IsTreeOf, Tree, Token, FileFault, Limits}
 use Rattle.ta_syntax.proofs.UniqueTokens.{tokens_unique, refused_no_tokens}
 use Rattle.ta_syntax.proofs.UniqueTrees.{file_unique}
 use Rattle.ta_syntax.proofs.Answered.{text_goes_on, not_past, tree_scan}
+use Rattle.ta_syntax.specs.declared.fault.FileFault.TheVariants as fault
 
 spelled_as : (bytes : List ℕ) (t : PlainTree) (ts : List Token) → IsTextOf bytes t → AreTokens bytes ts → kinds ts ≡ file_kinds t
 spelled_as bytes t ts text are = ap kinds (tokens_unique bytes ts text.tokens are text.are) ∙ text.spelled

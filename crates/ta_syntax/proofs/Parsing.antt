@@ -1,12 +1,7 @@
 -- What the parser reads and where it stops, for every grammar in which one token of lookahead suffices.
-use Rattle.std.proofs.Common.{refl, ap, sym, subst, eqb-true, ◌==◌, ◌≡◌, ◌∙◌, ◌+◌, ◌≤◌, ◌⊎◌, inl, inr, ℕ, zero, suc, Bool, true, false, cond, List, [], ◌∷◌}
-use Rattle.std.proofs.Common.{length, arith, Ok, Err}
-use Rattle.ta_syntax.specs.Kinds.{IsKind}
-use Rattle.ta_syntax.specs.Faults.{kinds}
-use Rattle.ta_syntax.specs.declared.tokens.Kind.{Kind}
-use Rattle.ta_syntax.specs.declared.placed.Token.{Token}
-use Rattle.ta_syntax.specs.Productions.{Class, code, has, stands, joined, Stop, wrong, many, deep, Production, nothing, one, both, choose, repeat, barred}
-use Rattle.ta_syntax.specs.Productions.{Parsed, followed_by, turns, parse, nullable, first}
+use Rattle.ta_syntax.proofs.Common.{refl, ap, sym, subst, eqb-true, ◌==◌, ◌≡◌, ◌∙◌, ◌+◌, ◌≤◌, ◌⊎◌, inl, inr, ℕ, zero, suc, Bool, true, false, cond, List, []}
+use Rattle.ta_syntax.proofs.Common.{◌∷◌, length, arith, Ok, Err, IsKind, kinds, Kind, Token, Class, code, has, stands, joined, Stop, wrong, many, deep}
+use Rattle.ta_syntax.proofs.Common.{Production, nothing, one, both, choose, repeat, barred, Parsed, followed_by, turns, parse, nullable, first}
 
 -- ---- the texts of a production: `ks` begins with one, and `w` is left
 

@@ -3,10 +3,10 @@ use Rattle.ta_syntax.proofs.Common.{◌≡◌, ℕ, zero, suc, List, [], ◌∷�
 use Rattle.ta_syntax.proofs.Common.{kind_bytes, PlainTree, name_kinds, location_kinds, Terms, Term, Factor, further, listed, led, ended, each, term_kinds}
 use Rattle.ta_syntax.proofs.Common.{sum_kinds, more_kinds, plain_sum, plain_term, plain_terms, factor_layer, sum_layer, term_layer, separator, printed, Prints}
 use Rattle.ta_syntax.proofs.Common.{sign_before, head_kinds, Kind, Mark, Sign, TreeSum, TreeTerm, out-TreeSum, fold_out-TreeSum}
+use Rattle.ta_syntax.proofs.SumSteps.{plain_items}
 use Rattle.ta_syntax.specs.declared.tokens.Kind.TheVariants as kind
 use Rattle.ta_syntax.specs.declared.tokens.Mark.TheVariants as mark
 use Rattle.ta_syntax.specs.declared.sums.Sign.TheVariants as sign
-use Rattle.ta_syntax.proofs.SumSteps.{plain_items}
 
 pub printed-append : (ks ls : List Kind) → printed (ks ++ ls) ≡ printed ks ++ printed ls
 printed-append [] ls = refl

@@ -1,8 +1,6 @@
 -- The tokens of what is printed.
 use Rattle.ta_syntax.proofs.Common.{◌≡◌, ℕ, Bool, true, false, List, [], ◌∷◌, ◌++◌, length, ◌+◌, inl, refl, ap, AllByRecursion, is_white, kind_bytes, IsKind}
-use Rattle.ta_syntax.proofs.Common.{lengthens, IsSpace, IsLastGap, ScansTo, AreTokens, kinds, separator, printed}
-use Rattle.ta_syntax.proofs.Common.{Kind, Mark}
-use Rattle.ta_syntax.proofs.Common.{Token}
+use Rattle.ta_syntax.proofs.Common.{lengthens, IsSpace, IsLastGap, ScansTo, AreTokens, kinds, separator, printed, Kind, Mark, Token}
 use Rattle.ta_syntax.specs.declared.tokens.Kind.TheVariants as kind
 use Rattle.ta_syntax.specs.declared.tokens.Mark.TheVariants as mark
 

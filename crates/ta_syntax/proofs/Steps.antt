@@ -1,20 +1,17 @@
 -- Steps of reading, and how they go together.
 use Rattle.ta_syntax.proofs.Common.{◌≡◌, ℕ, ◌≤◌, Bool, true, false, cond, List, [], ◌∷◌, ◌++◌, refl, sym, ap, subst, ◌∙◌, append_assoc, arith, length}
-use Rattle.ta_syntax.proofs.Common.{length-append}
-use Rattle.ta_syntax.proofs.Common.{AllByRecursion, relation_kind, sign_kind, Offsets, IsPlaced, at_first, kinds}
-use Rattle.ta_syntax.proofs.Common.{offset_of, Kind, Mark, Relation, Sign, Token, FileFault}
-use Rattle.std.proofs.Common.{Ok, Err}
+use Rattle.ta_syntax.proofs.Common.{length-append, AllByRecursion, relation_kind, sign_kind, Offsets, IsPlaced, at_first, kinds, offset_of, Kind, Mark}
+use Rattle.ta_syntax.proofs.Common.{Relation, Sign, Token, FileFault, Ok, Err, Class, wrong, code, mark_code, has, only, names, numbers, stands, followed_by}
+use Rattle.ta_syntax.proofs.Common.{parse, Production, one, both, choose, a_mark, a_name, a_number, signs, relations, maybe, Step, Took, Halts, BeginsWithKind}
+use Rattle.ta_syntax.proofs.Common.{IsOther, IsUnexpected, NoNumber, IsUnnamed}
+use Rattle.ta_syntax.specs.Reading.{NoName, NoRelation}
+pub use Rattle.ta_syntax.proofs.Counting.{kinds-append}
+use Rattle.ta_syntax.proofs.FileSpans.{only_is, sign_is, relation_is, no_mark}
 use Rattle.ta_syntax.specs.declared.tokens.Kind.TheVariants as kind
 use Rattle.ta_syntax.specs.declared.tokens.Mark.TheVariants as mark
 use Rattle.ta_syntax.specs.declared.tokens.Relation.TheVariants as relation
 use Rattle.ta_syntax.specs.declared.sums.Sign.TheVariants as sign
 use Rattle.ta_syntax.specs.declared.fault.FileFault.TheVariants as fault
-use Rattle.ta_syntax.specs.Productions.{Class, wrong, code, mark_code, has, only, names, numbers, stands, followed_by, parse}
-use Rattle.ta_syntax.specs.Productions.{Production, one, both, choose}
-use Rattle.ta_syntax.specs.FileGrammar.{a_mark, a_name, a_number, signs, relations, maybe}
-use Rattle.ta_syntax.specs.Reading.{Step, Took, Halts, BeginsWithKind, IsOther, IsUnexpected, NoNumber, NoName, IsUnnamed, NoRelation}
-pub use Rattle.ta_syntax.proofs.Counting.{kinds-append}
-use Rattle.ta_syntax.proofs.FileSpans.{only_is, sign_is, relation_is, no_mark}
 
 -- ---- lists
 

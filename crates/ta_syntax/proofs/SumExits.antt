@@ -1,17 +1,12 @@
 -- What is known where a reader of sums returns.
-use Rattle.ta_syntax.proofs.Common.{◌≡◌, ℕ, zero, suc, Bool, cond, ◌-◌, ◌<◌, ◌≤◌, false, List, [], ◌∷◌, ◌++◌, Some, None, refl, sym, ap, subst, ◌∙◌}
-use Rattle.ta_syntax.proofs.Common.{arith, append-nil, Terms, Term, Factor, sign_kind, sum_kinds, term_kinds}
-use Rattle.ta_syntax.proofs.Common.{factor_kinds, IsSum, AreTerms, IsTerm, IsFactor, plain_sum, plain_terms, sum_depth, term_depth, factor_depth, signed_sum}
-use Rattle.ta_syntax.proofs.Common.{unplaced_sign, sum_term_stated, kinds, offset_of, Token, Sign, FileFault, Digits, Spelled, TreeSum, TreeTerm, TreeFactor}
-use Rattle.ta_syntax.proofs.Common.{Named, Nested, TreeSum-F, roll-TreeSum, roll-TreeTerm}
-use Rattle.std.proofs.Common.{Err}
-use Rattle.ta_syntax.specs.declared.tokens.Kind.TheVariants as kind
-use Rattle.ta_syntax.specs.declared.tokens.Mark.TheVariants as mark
-use Rattle.ta_syntax.specs.declared.sums.Sign.TheVariants as sign
-use Rattle.ta_syntax.specs.declared.fault.FileFault.TheVariants as fault
-use Rattle.ta_syntax.specs.Productions.{Production, both, one, repeat, stands, deep, wrong, numbers, names, parse_one, Parsed}
-use Rattle.ta_syntax.specs.FileGrammar.{factor, nested_with, term_with, sum_with, signs, a_name}
-use Rattle.ta_syntax.specs.Reading.{Step, Halts, TookFactor, TookTerm, TookSum, BeginsWithKind, IsOther, IsUnexpected, IsUnnamed, NoNumber, LeadingSign}
+use Rattle.ta_syntax.proofs.Common.{◌≡◌, ℕ, zero, suc, Bool, cond, ◌-◌, ◌<◌, ◌≤◌, false, List, [], ◌∷◌, ◌++◌, Some, None, refl, sym, ap, subst, ◌∙◌, arith}
+use Rattle.ta_syntax.proofs.Common.{append-nil, Terms, Term, Factor, sign_kind, sum_kinds, term_kinds, factor_kinds, IsSum, AreTerms, IsTerm, IsFactor}
+use Rattle.ta_syntax.proofs.Common.{plain_sum, plain_terms, sum_depth, term_depth, factor_depth, signed_sum, unplaced_sign, sum_term_stated, kinds, offset_of}
+use Rattle.ta_syntax.proofs.Common.{Token, Sign, FileFault, Digits, Spelled, TreeSum, TreeTerm, TreeFactor, Named, Nested, TreeSum-F, roll-TreeSum}
+use Rattle.ta_syntax.proofs.Common.{roll-TreeTerm, Err, Production, both, one, repeat, stands, deep, wrong, numbers, names, Parsed, factor, nested_with}
+use Rattle.ta_syntax.proofs.Common.{term_with, sum_with, signs, a_name, Step, Halts, BeginsWithKind, IsOther, IsUnexpected, IsUnnamed, NoNumber}
+use Rattle.ta_syntax.specs.Productions.{parse_one}
+use Rattle.ta_syntax.specs.Reading.{TookFactor, TookTerm, TookSum, LeadingSign}
 use Rattle.ta_syntax.proofs.Parsing.{repeat_again, repeat_ends}
 use Rattle.ta_syntax.proofs.Steps.{then, respell, also_at, first_of_both, past, chosen, not_chosen, goes_as, take_mark, take_name, take_number, take_sign}
 use Rattle.ta_syntax.proofs.Steps.{stands_mark, stands_sign, stands_kind, other_mark, other_number, stops, stops_in, mark_stops, name_stops, maybe_taken}
@@ -19,6 +14,10 @@ use Rattle.ta_syntax.proofs.Steps.{maybe_skipped}
 use Rattle.ta_syntax.proofs.SumSteps.{plain_sum_roll, plain_number, plain_times, plain_alone, plain_named, plain_nested, stated_number, stated_times}
 use Rattle.ta_syntax.proofs.SumSteps.{stated_alone, stated_named, stated_nested, stated_sum_roll, pairs, spell_term, sum_kinds_of, before_of, sum_of-push}
 use Rattle.ta_syntax.proofs.SumSteps.{before_of-push, pairs-push, are-push, is_sum-push, depth-push}
+use Rattle.ta_syntax.specs.declared.tokens.Kind.TheVariants as kind
+use Rattle.ta_syntax.specs.declared.tokens.Mark.TheVariants as mark
+use Rattle.ta_syntax.specs.declared.sums.Sign.TheVariants as sign
+use Rattle.ta_syntax.specs.declared.fault.FileFault.TheVariants as fault
 
 -- ---- factors
 

@@ -1,12 +1,11 @@
 -- The plain form of sums, terms and factors that were read, and the offsets that they state.
-use Rattle.ta_syntax.proofs.Common.{◌≡◌, ℕ, ◌≤◌, List, [], ◌∷◌, ◌++◌, Some, None, map, refl, sym, ap, subst, ◌∙◌, append_assoc}
-use Rattle.ta_syntax.proofs.Common.{arith, append-nil, Terms, Term, Factor, term, number, times, alone, blank, named, nested, sign_kind}
-use Rattle.ta_syntax.proofs.Common.{sum_kinds, more_kinds, term_kinds, factor_kinds, IsSum, AreTerms, IsTerm, plain_sum, plain_term, plain_factor}
-use Rattle.ta_syntax.proofs.Common.{plain_terms, terms_of, factor_layer, sum_layer, term_layer, sum_depth, term_depth, Offsets, at_first, more_of, leading}
-use Rattle.ta_syntax.proofs.Common.{signed_sum, unplaced_sign, factor_stated, term_layer_stated, sum_layer_stated, sum_stated, sum_term_stated}
-use Rattle.ta_syntax.proofs.Common.{sum_factor_stated, Kind}
-use Rattle.ta_syntax.proofs.Common.{Mark, Sign, Digits, Spelled, TreeSum, TreeTerm, TreeFactor, Named, Nested, TreeSum-F, rolls-Named, rolls-Nested}
-use Rattle.ta_syntax.proofs.Common.{roll-TreeSum, roll-TreeTerm, fold-roll-TreeSum, fold-roll-TreeTerm, fold-roll-TreeFactor}
+use Rattle.ta_syntax.proofs.Common.{◌≡◌, ℕ, ◌≤◌, List, [], ◌∷◌, ◌++◌, Some, None, map, refl, sym, ap, subst, ◌∙◌, append_assoc, arith, append-nil, Terms, Term}
+use Rattle.ta_syntax.proofs.Common.{Factor, term, number, times, alone, blank, named, nested, sign_kind, sum_kinds, more_kinds, term_kinds, factor_kinds, IsSum}
+use Rattle.ta_syntax.proofs.Common.{AreTerms, IsTerm, plain_sum, plain_term, plain_factor, plain_terms, terms_of, factor_layer, sum_layer, term_layer}
+use Rattle.ta_syntax.proofs.Common.{sum_depth, term_depth, Offsets, at_first, more_of, leading, signed_sum, unplaced_sign, factor_stated, term_layer_stated}
+use Rattle.ta_syntax.proofs.Common.{sum_layer_stated, sum_stated, sum_term_stated, sum_factor_stated, Kind, Mark, Sign, Digits, Spelled, TreeSum, TreeTerm}
+use Rattle.ta_syntax.proofs.Common.{TreeFactor, Named, Nested, TreeSum-F, rolls-Named, rolls-Nested, roll-TreeSum, roll-TreeTerm, fold-roll-TreeSum}
+use Rattle.ta_syntax.proofs.Common.{fold-roll-TreeTerm, fold-roll-TreeFactor}
 use Rattle.ta_syntax.specs.declared.tokens.Kind.TheVariants as kind
 use Rattle.ta_syntax.specs.declared.tokens.Mark.TheVariants as mark
 use Rattle.ta_syntax.specs.declared.sums.Sign.TheVariants as sign

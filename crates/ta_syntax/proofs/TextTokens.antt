@@ -2,15 +2,14 @@
 use Rattle.ta_syntax.proofs.Common.{Option, Some, None, MatchOption, ◌≡◌, ℕ, zero, suc, ◌-◌, ◌<◌, Bool, true, false, List, [], ◌∷◌, ◌++◌, length, take, drop}
 use Rattle.ta_syntax.proofs.Common.{inl, inr, ⊎_elim, refl, sym, ap, ◌∙◌, arith, eqb-true, take-append-drop, ◌==◌, is_ascii_digit, prefix_len, nat_tests}
 use Rattle.ta_syntax.proofs.Common.{begins_word, is_white, is_lone, mark_bytes, is_letter, is_word, BeginsByLetter, lengthens, IsLongest, IsSpace, AreTokens}
-use Rattle.ta_syntax.proofs.Common.{begins_mark, IsRefused, MarkAt, BeginsNoGap, TokenFrom, NoToken, SkipsGap, Kind, Mark, Token, ◌⊎◌}
+use Rattle.ta_syntax.proofs.Common.{begins_mark, IsRefused, MarkAt, BeginsNoGap, TokenFrom, NoToken, SkipsGap, Kind, Mark, Token, ◌⊎◌, Fails, fails_after}
 use Rattle.std.proofs.lemmas.Bool.{cases_Bool, cases_eq}
-use Rattle.ta_syntax.specs.declared.tokens.Kind.TheVariants as kind
-use Rattle.ta_syntax.specs.declared.tokens.Mark.TheVariants as mark
-use Rattle.ta_syntax.specs.declared.fault.FileFault.TheVariants as fault
-use Rattle.ta_base.proofs.Each.{Fails, fails_after}
 use Rattle.ta_syntax.proofs.Words.{name_from, number_from}
 use Rattle.ta_syntax.proofs.UniqueTokens.{keyword_of, keyword_is, of_word, IsWordMark}
 use Rattle.ta_syntax.proofs.Scans.{ScanSoFar, scan_begins, scan_goes_on, scan_ends, scan_stops, after_shorter, kind_some}
+use Rattle.ta_syntax.specs.declared.tokens.Kind.TheVariants as kind
+use Rattle.ta_syntax.specs.declared.tokens.Mark.TheVariants as mark
+use Rattle.ta_syntax.specs.declared.fault.FileFault.TheVariants as fault
 
 -- ---- gaps
 

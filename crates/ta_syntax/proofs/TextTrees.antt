@@ -1,12 +1,11 @@
 -- A text has a tree, or a first error of its tokens or its grammar.
 use Rattle.ta_syntax.proofs.Common.{ℕ, ◌≤◌, List, length, ⊎_elim, sym, subst, FileText, at_start, StaysWithin, AreTokens, IsRefused, kinds, IsTextOf, Either}
-use Rattle.ta_syntax.proofs.Common.{HasTree, HasGrammarFault, Token}
-use Rattle.ta_base.specs.declared.limits.Limits.{Limits}
-use Rattle.ta_syntax.specs.declared.fault.FileFault.TheVariants as fault
+use Rattle.ta_syntax.proofs.Common.{HasTree, HasGrammarFault, Token, Limits}
 use Rattle.ta_syntax.proofs.LegalTrees.{file_fault}
 use Rattle.ta_syntax.proofs.TextTokens.{texts_have_tokens}
 use Rattle.ta_syntax.proofs.Answered.{tokens_have_answers, tree_limits}
 use Rattle.ta_syntax.proofs.BuiltTrees.{trees_exist}
+use Rattle.ta_syntax.specs.declared.fault.FileFault.TheVariants as fault
 
 with_tree : (l : Limits) (bytes : List ℕ) (ts : List Token) → length bytes ≤ 4194304 → AreTokens bytes ts
     → FileText (kinds ts) × StaysWithin l at_start (kinds ts) → HasTree l bytes

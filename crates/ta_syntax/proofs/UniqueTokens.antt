@@ -3,14 +3,14 @@ use Rattle.ta_syntax.proofs.Common.{◌≡◌, ℕ, Option, Some, None, bytes_eq
 use Rattle.ta_syntax.proofs.Common.{subst, ◌∙◌, arith, ◌+◌, IsTrue, ◌==◌, ◌⊎◌, IfSome, is_ascii_digit, AllByRecursion, find, nat_tests, letter_no_digit, unlike}
 use Rattle.ta_syntax.proofs.Common.{is_white, is_lone, mark_bytes, kind_bytes, IsDigits, IsNameText, IsKind, IsKind-prop, is_letter, is_word, BeginsByLetter}
 use Rattle.ta_syntax.proofs.Common.{lengthens, IsLongest, IsSpace, IsGap, IsLastGap, ScansTo, AreTokens, begins_mark, IsRefusedHere, IsRefused, NoToken, Kind}
-use Rattle.ta_syntax.proofs.Common.{Mark, KEYWORDS, Token, MatchOption, append_cancel_left}
+use Rattle.ta_syntax.proofs.Common.{Mark, KEYWORDS, Token, MatchOption, append_cancel_left, Fails}
 use Rattle.std.proofs.lemmas.Slice.Eq.{bytes_eq-Decides}
-use Rattle.ta_syntax.specs.declared.tokens.Kind.TheVariants as kind
-use Rattle.ta_syntax.specs.declared.tokens.Mark.TheVariants as mark
-use Rattle.ta_base.proofs.Each.{Fails, longest_unique}
+use Rattle.ta_base.proofs.Each.{longest_unique}
 use Rattle.std.proofs.lemmas.List.Elements.{recursion_from_All}
 use Rattle.std.proofs.lemmas.List.Sums.{AllPass-from_list_all}
 use Rattle.ta_base.proofs.DecimalDigits.{digit_no_letter}
+use Rattle.ta_syntax.specs.declared.tokens.Kind.TheVariants as kind
+use Rattle.ta_syntax.specs.declared.tokens.Mark.TheVariants as mark
 
 -- ---- which sign stands first
 abbrev next_is : ℕ → List ℕ → Bool

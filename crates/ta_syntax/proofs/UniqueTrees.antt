@@ -5,12 +5,12 @@ use Rattle.ta_syntax.proofs.Common.{factor_kinds, relation_kind, IsSum, AreTerms
 use Rattle.ta_syntax.proofs.Common.{PlainEvent, PlainPattern, PlainTree, listed, further, led, ended, each, name_kinds, initial_kinds, location_kinds}
 use Rattle.ta_syntax.proofs.Common.{comparison_kinds, update_kinds, rule_kinds, event_kinds, pattern_kinds, file_kinds, IsSome, IsComparison, IsUpdate, IsRule}
 use Rattle.ta_syntax.proofs.Common.{IsEvent, IsPattern, IsTree, Kind, Mark, Relation, Sign}
+use Rattle.ta_syntax.proofs.SumSteps.{term_not}
+use Rattle.ta_base.proofs.Lists.{heads}
 use Rattle.ta_syntax.specs.declared.tokens.Kind.TheVariants as kind
 use Rattle.ta_syntax.specs.declared.tokens.Mark.TheVariants as mark
 use Rattle.ta_syntax.specs.declared.tokens.Relation.TheVariants as relation
 use Rattle.ta_syntax.specs.declared.sums.Sign.TheVariants as sign
-use Rattle.ta_syntax.proofs.SumSteps.{term_not}
-use Rattle.ta_base.proofs.Lists.{heads}
 
 -- ---- tokens that would continue a part
 

@@ -1,8 +1,7 @@
 -- The longest run of bytes that pass a test.
 use Rattle.ta_syntax.proofs.Common.{◌≡◌, ℕ, List, [], ◌∷◌, take, drop, sym, is_ascii_digit, prefix_len, all_front, begins_word, front_is, IsLongest}
-use Rattle.ta_syntax.proofs.Common.{BeginsByDigit, TokenFrom, IsDigits, mark_bytes, is_word, BeginsByLetter, Mark, take-append-drop}
+use Rattle.ta_syntax.proofs.Common.{BeginsByDigit, TokenFrom, IsDigits, mark_bytes, is_word, BeginsByLetter, Mark, take-append-drop, Fails, fails_after}
 use Rattle.ta_syntax.specs.declared.tokens.Kind.TheVariants as kind
-use Rattle.ta_base.proofs.Each.{Fails, fails_after}
 
 pub longest_name : (n : List ℕ) (xs : List ℕ) → Fails is_word xs → IsLongest (kind.Name n) xs
 longest_name n [] h = tt

@@ -1,34 +1,30 @@
 -- the text of the trees of safe patterns is a certificate that a judge accepts
-use Rattle.ta_verdict.proofs.Common.{◌≡◌, ◌∙◌, ℕ, ◌+◌, ◌<◌, ◌≤◌, ◌^◌, suc, Bool, true, false, List, [], ◌∷◌, ◌++◌, length, map, Option, Some, None}
-use Rattle.ta_verdict.proofs.Common.{slice_get}
+use Rattle.ta_verdict.proofs.Common.{◌≡◌, ◌∙◌, ℕ, ◌+◌, ◌<◌, ◌≤◌, ◌^◌, suc, Bool, true, false, List, [], ◌∷◌, ◌++◌, length, map, Option, Some, None, slice_get}
 use Rattle.ta_verdict.proofs.Common.{refl, sym, ap, subst, append_assoc, arith, codes, decimal, lit≤, lit<, AllByRecursion, slice_get_within, File, Pattern}
 use Rattle.ta_verdict.proofs.Common.{LoopsPure, AreWritable, cert_lines, cert_text, head_text, order_lines, pair_of, proof_lines, proof_of, proofs_of}
 use Rattle.ta_verdict.proofs.Common.{proofs_text, question_text, version_of, line_text, Node, Order, Proof, Verdict, refuted_hold, orders_once, orders_sound}
 use Rattle.ta_verdict.proofs.Common.{IsShort, TreeIs, FoundOrders, pattern_search, AreTrees, AreTreesOf, CertificateOn, SafeOne, safe_among, safe_ones}
 use Rattle.ta_verdict.proofs.Common.{safe_picked, Pick, first_picked, picked, picked_there, text_by, tree_by, tree_size, with_safe, Budget, AreTreesOfFile}
-use Rattle.ta_verdict.proofs.Common.{head_of, is_lazy, ended_line, Safe, above_apart, each_append, each_map, weaker, IsProof}
+use Rattle.ta_verdict.proofs.Common.{head_of, is_lazy, ended_line, Safe, above_apart, each_append, each_map, weaker, IsProof, IsNarrow, IsWithin, Limits}
+use Rattle.ta_verdict.proofs.Common.{Certificate, Moments, Words, Good, most_unknowns}
 use Rattle.std.proofs.Common.{◌*◌, mul-le-mul}
-use Rattle.ta_automaton.specs.Narrow.{IsNarrow, IsWithin}
 use Rattle.ta_automaton.specs.declared.automaton.Automaton.{Automaton}
 use Rattle.ta_base.proofs.DecimalDigits.{row_short}
-use Rattle.ta_base.specs.declared.limits.Limits.{Limits}
 use Rattle.ta_base.specs.Lists.{Distinct}
 use Rattle.ta_cert.proofs.Writing.{cert_parts, lines_text-proofs}
 use Rattle.ta_cert.specs.Laws.{AreShort}
 use Rattle.ta_cert.specs.Lines.{cert_lines_text}
 use Rattle.ta_cert.specs.Tree.{Tree, all_preorder}
 use Rattle.ta_cert.specs.declared.line.Line.{Line}
-use Rattle.ta_cert.specs.declared.line.Line.TheVariants as line
-use Rattle.ta_check.specs.Certificate.{Certificate, CertificateFor, MayHave, ProvesClaim, ShowsPair, lines_of_kind, proof_number}
-use Rattle.ta_check.specs.Subjects.{Kind, Moments, Subject, Words, claiming, search_of}
+use Rattle.ta_check.specs.Certificate.{CertificateFor, MayHave, ProvesClaim, ShowsPair, lines_of_kind, proof_number}
+use Rattle.ta_check.specs.Subjects.{Kind, Subject, claiming, search_of}
 use Rattle.ta_check.proofs.Searches.{search_named}
 use Rattle.ta_encode.specs.Range.{IsJudged}
 use Rattle.ta_encode.proofs.Preorders.{in_order}
-use Rattle.ta_implied.specs.Implied.{Good}
 use Rattle.ta_rest.proofs.Resting.{no_pairs_good}
 use Rattle.ta_walk.proofs.NodesMade.{refuted_hold as moments_refuted}
-use Rattle.ta_walk.specs.Ends.{most_unknowns}
 use Rattle.ta_verdict.specs.declared.trees.Trees.{Trees}
+use Rattle.ta_cert.specs.declared.line.Line.TheVariants as line
 use Rattle.ta_verdict.specs.declared.trees.Trees.TheVariants as which
 
 -- the numbers of those that are safe

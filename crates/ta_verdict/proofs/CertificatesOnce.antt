@@ -2,8 +2,7 @@
 use Rattle.ta_verdict.proofs.Common.{◌≡◌, ◌∙◌, Bool, true, false, List, [], ◌∷◌, ℕ, map, refl, sym, ap, subst, File, Pattern, cert_text, question_text, pair_of}
 use Rattle.ta_verdict.proofs.Common.{Node, Order, Proof, Search, of_events, pattern_search, TreeIs, orders_once, AreTrees, AreTreesOf}
 use Rattle.ta_verdict.proofs.Common.{CertificatesAreDetermined, SafeOne, safe_picked, text_by, tree_by, tree_under, endings_once, Ending, Left, Solved, Stopped}
-use Rattle.ta_verdict.proofs.Common.{Whole}
-use Rattle.ta_moment_tree.specs.Makers.{moments_of}
+use Rattle.ta_verdict.proofs.Common.{Whole, moments_of}
 use Rattle.ta_verdict.proofs.VerdictsOnce.{verdicts_once}
 
 -- a search has one tree

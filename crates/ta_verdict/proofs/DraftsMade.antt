@@ -2,12 +2,11 @@
 use Rattle.ta_verdict.proofs.Common.{◌≡◌, ◌∙◌, ℕ, ◌+◌, ◌<◌, true, List, [], ◌∷◌, ◌++◌, length, slice_get, take, Option, Some, None, refl, sym, ap, subst, arith}
 use Rattle.ta_verdict.proofs.Common.{append_assoc, append-nil, length-take-le, take_next, some_at, File, Pattern, nodes_text, proof_text, proofs_text}
 use Rattle.ta_verdict.proofs.Common.{line_text, node_text, Node, Proof, Verdict, OfPattern, AreTreesOf, SafeOne, safe_ones, tree_size, with_safe, AddsTree}
-use Rattle.ta_verdict.proofs.Common.{DraftBegins, DraftKeeps, DraftHasTree, HasProofs, HasText, HasTrees, ended_line, pieces_text, AllocError, Draft}
-use Rattle.ta_verdict.proofs.Common.{Bool, Budget, VerdictFits, VerdictHolds, holds_by, tree_by, tree_under}
-use Rattle.std.specs.Prelude.{is_some, OnOk, Result, Ok, Err}
-use Rattle.std.proofs.lemmas.Bool.{false≢true}
-use Rattle.ta_cert.specs.declared.line.Line.TheVariants as line
+use Rattle.ta_verdict.proofs.Common.{DraftBegins, DraftKeeps, DraftHasTree, HasProofs, HasText, HasTrees, ended_line, pieces_text, AllocError, Draft, Bool}
+use Rattle.ta_verdict.proofs.Common.{Budget, VerdictFits, VerdictHolds, holds_by, tree_by, tree_under, OnOk, Result, Ok, Err, false≢true}
+use Rattle.std.specs.Prelude.{is_some}
 use Rattle.ta_verdict.specs.declared.pieces.Pieces.{Pieces}
+use Rattle.ta_cert.specs.declared.line.Line.TheVariants as line
 
 nodes_joined : (ns ms : List Node) → nodes_text (ns ++ ms) ≡ nodes_text ns ++ nodes_text ms
 nodes_joined [] ms = refl

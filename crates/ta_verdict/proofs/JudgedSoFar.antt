@@ -2,8 +2,7 @@
 use Rattle.ta_verdict.proofs.Common.{Bool, Err, Ok, Result, refl, Some, ◌≡◌, ◌<◌, ◌≤◌, ◌+◌, ◌∙◌, ◌++◌, ℕ, List, [], ◌∷◌, length, slice_get, take, take_all}
 use Rattle.ta_verdict.proofs.Common.{subst, sym, append-nil, arith, AllByRecursion, each_push, slice_get_within, some_at, File, Pattern, OfPattern, Node}
 use Rattle.ta_verdict.proofs.Common.{Verdict, VerdictFits, EachHolds, AddsTree, HasProofs, HasTrees, Pick, first_picked, picked, picked_there, safe_ones}
-use Rattle.ta_verdict.proofs.Common.{safe_picked, Begun, proofs_text}
-use Rattle.std.specs.Prelude.{IfErr}
+use Rattle.ta_verdict.proofs.Common.{safe_picked, Begun, proofs_text, IfErr}
 use Rattle.ta_verdict.proofs.DraftsMade.{trees_more}
 use Rattle.ta_verdict.proofs.VerdictsMade.{SoFar, all_hold, as_many, one_more, so_many}
 

@@ -1,13 +1,11 @@
 -- what the end of a visit of moments makes of the verdict
 use Rattle.ta_verdict.proofs.Common.{◌≡◌, ℕ, ◌≤◌, List, Some, slice_get, File, Pattern, LoopsPure, Node, PlaceKind, IsSpent, ReportKind, Overflow, SafeHolds}
-use Rattle.ta_verdict.proofs.Common.{SpentHolds, VerdictAnswers, moment_question, place_of, of_events}
-use Rattle.ta_moment_tree.specs.Makers.{moments_of}
+use Rattle.ta_verdict.proofs.Common.{SpentHolds, VerdictAnswers, moment_question, place_of, of_events, moments_of, LostAt}
 use Rattle.ta_walk.proofs.NodesMade.{refuted_hold}
-use Rattle.ta_walk.specs.MomentEnds.{LostAt}
-use Rattle.ta_report.specs.declared.verdict.ReportKind.TheVariants as kind
 use Rattle.ta_walk.specs.Ends.{TreeKept}
-use Rattle.ta_walk.specs.declared.end.PlaceKind.TheVariants as place
 use Rattle.ta_verdict.proofs.VerdictsMade.{overflow_holds, run_leaves}
+use Rattle.ta_report.specs.declared.verdict.ReportKind.TheVariants as kind
+use Rattle.ta_walk.specs.declared.end.PlaceKind.TheVariants as place
 
 -- a refuted pattern is safe
 pub moments_safe :

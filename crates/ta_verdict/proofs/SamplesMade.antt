@@ -1,15 +1,14 @@
 -- A sample of the parameters of a file, by how the search for it ends
 use Rattle.ta_verdict.proofs.Common.{◌≡◌, ℕ, ◌<◌, ◌^◌, ℤ, pos, List, [], ◌∷◌, map, length, refl, sym, ap, subst, ◌∙◌, length-map, AllByRecursion, File}
-use Rattle.ta_verdict.proofs.Common.{ReportKind, IsSample, SampleHolds, SamplesAreDetermined, place_of}
+use Rattle.ta_verdict.proofs.Common.{ReportKind, IsSample, SampleHolds, SamplesAreDetermined, place_of, ReportSample}
 use Rattle.ta_counter.specs.Values.{Value}
 use Rattle.ta_replay.proofs.Decimals.{value_is}
-use Rattle.ta_report.specs.declared.verdict.ReportKind.TheVariants as kind
-use Rattle.ta_report.specs.declared.verdict.ReportSample.{ReportSample}
 use Rattle.ta_report.specs.declared.verdict.ReportSample.TheVariants.{Sample, Empty, Spent, Overflow}
 use Rattle.ta_walk.specs.declared.end.SampleEnd.{SampleEnd}
-use Rattle.ta_walk.specs.declared.end.SampleEnd.TheVariants as walk
 use Rattle.ta_walk.specs.Samples.{IsSampleEnd}
 use Rattle.ta_walk.proofs.SamplesFound.{found_small, found_starts, sample_ends_once, samples_real}
+use Rattle.ta_report.specs.declared.verdict.ReportKind.TheVariants as kind
+use Rattle.ta_walk.specs.declared.end.SampleEnd.TheVariants as walk
 
 all_values : (ns : List ℕ) → AllByRecursion (λ n. n < 2 ^ 127) ns → AllByRecursion Value (map pos ns)
 all_values [] small = tt

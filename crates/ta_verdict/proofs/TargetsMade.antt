@@ -1,8 +1,7 @@
 -- lines that go to a staged file
-use Rattle.ta_verdict.proofs.Common.{ℕ, List, Result, Ok, Err, Begun}
-use Rattle.std.specs.Prelude.{IfErr, OnOk}
+use Rattle.ta_verdict.proofs.Common.{ℕ, List, Result, Ok, Err, Begun, IfErr, OnOk, StagedOr}
 use Rattle.ta_shelf.specs.Ends.{ShelfState}
-use Rattle.ta_shelf.specs.Staging.{StagedInPart, StagedOr, StagedSoFar}
+use Rattle.ta_shelf.specs.Staging.{StagedInPart, StagedSoFar}
 use Rattle.ta_shelf.specs.declared.staged_file.StagedFile.{StagedFile}
 
 module _ {T E : Type 0} (named bytes : T → List ℕ) (begun : Begun) (file : StagedFile T) (shelf : ShelfState) (text : List ℕ) where

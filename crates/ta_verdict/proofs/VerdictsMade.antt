@@ -5,8 +5,7 @@ use Rattle.ta_verdict.proofs.Common.{entry_picked, entry_place, first_picked, pi
 use Rattle.ta_verdict.proofs.Common.{Solution, PlaceKind, IsSpent, NodeOf, SolutionAt, TreeIs, leaf_count, FoundOrders, orders_sound, refuted_hold, ReportKind}
 use Rattle.ta_verdict.proofs.Common.{Verdict, IsSolution, pattern_search, EachHolds, IsOutOfRangeIn, Question, SafeHolds, SpentHolds, UnderOrders}
 use Rattle.ta_verdict.proofs.Common.{VerdictAnswers, safety_question, node_with, place_of, Err, IfOk, Ok, Result, AllocError, Safe as ClaimSafe, Overflow}
-use Rattle.ta_automaton.specs.Narrow.{IsNarrow}
-use Rattle.ta_implied.specs.Implied.{Good}
+use Rattle.ta_verdict.proofs.Common.{IsNarrow, Good}
 use Rattle.ta_words.proofs.Counts.{legal_under}
 use Rattle.ta_walk.specs.Visit.{IsOutOfRangeAt}
 use Rattle.ta_walk.proofs.SpentSplits.{spent_split}

@@ -3,17 +3,13 @@ use Rattle.ta_verdict.proofs.Common.{◌≡◌, ◌⊎◌, inl, inr, ◌+◌, �
 use Rattle.ta_verdict.proofs.Common.{arith, File, Pattern, Solution, PlaceKind, Search, Pending, Ending, Whole, Solved, Stopped, Left, IsVisitEnding, WholeAt}
 use Rattle.ta_verdict.proofs.Common.{NodeOf, SolutionAt, leaf_count, Order, pair_of, orders_once, ends_once, endings_once, node_with, Verdict, EachHolds}
 use Rattle.ta_verdict.proofs.Common.{Question, VerdictAnswers, VerdictHolds, VerdictsAreDetermined, holds_by, safety_question, moment_question, Fact, Found}
-use Rattle.ta_verdict.proofs.Common.{FoundAt, of_events, Pick, first_picked, picked, picked_there}
+use Rattle.ta_verdict.proofs.Common.{FoundAt, of_events, Pick, first_picked, picked, picked_there, Run, ReplayStays, Unsafe, Overflow, one_witness, runs_once}
 use Rattle.ta_words.specs.declared.element.Element.{Element}
-use Rattle.ta_replay.specs.declared.run.Run.{Run}
-use Rattle.ta_replay.specs.Replays.{ReplayStays}
+use Rattle.ta_report.specs.declared.verdict.Verdict.TheVariants.{Safe, Spent}
+use Rattle.ta_verdict.proofs.VerdictsMade.{solution_is}
 use Rattle.ta_walk.specs.declared.end.PlaceKind.TheVariants as place
 use Rattle.ta_walk.specs.declared.end.WalkEnd.TheVariants as walk
 use Rattle.ta_report.specs.declared.verdict.ReportKind.TheVariants as kind
-use Rattle.ta_report.specs.declared.verdict.Verdict.TheVariants.{Safe, Unsafe, Spent, Overflow}
-use Rattle.ta_witness.proofs.WitnessOnce.{one_witness}
-use Rattle.ta_walk.proofs.RunsOnce.{runs_once}
-use Rattle.ta_verdict.proofs.VerdictsMade.{solution_is}
 
 -- a solution that is found has values, those of a whole node; and there is one
 pub record HasOneSolution {E S : Type 0} (q : Question E S) (number budget : ℕ) : Type 0 where

@@ -1,11 +1,9 @@
 -- what a verdict that holds says of a pattern, by either tree
-use Rattle.ta_verdict.proofs.Common.{◌≡◌, ◌∙◌, ℕ, Bool, true, false, Some, File, Pattern, Budget, Verdict, VerdictHolds, holds_by, tree_size}
-use Rattle.ta_automaton.specs.Runs as runs
-use Rattle.ta_replay.specs.Replays.{ReplayStays}
+use Rattle.ta_verdict.proofs.Common.{◌≡◌, ◌∙◌, ℕ, Bool, true, false, Some, File, Pattern, Budget, Verdict, VerdictHolds, holds_by, tree_size, ReplayStays, Run}
+use Rattle.ta_verdict.proofs.Common.{Unsafe, Overflow, IsShortRun}
 use Rattle.ta_replay.specs.Shows.{Shows}
-use Rattle.ta_replay.specs.declared.run.Run.{Run}
-use Rattle.ta_report.specs.declared.verdict.Verdict.TheVariants.{Safe, Unsafe, Spent, Overflow}
-use Rattle.ta_witness.specs.Witness.{IsShortRun}
+use Rattle.ta_report.specs.declared.verdict.Verdict.TheVariants.{Safe, Spent}
+use Rattle.ta_automaton.specs.Runs as runs
 
 safe_by :
     (lazy : Bool) (file : File) (budget number : ℕ) (p : Pattern) (nodes leaves : ℕ) → holds_by lazy file budget number p (Safe nodes leaves)

@@ -1,24 +1,17 @@
 -- the facts of what the search of moments comes to: each answers a question that exists, and none is asked twice
+use Rattle.ta_walk.proofs.Common.{nat_lt, cond_both, each_in, Comes, all_or_none, answered, Fact, Never, First, Stands, Last, Before, After, Same, Fails}
+use Rattle.ta_walk.proofs.Common.{Question, OfGuard, OfOrder, OfStuck, is_open, question_of, answers, are_pairs, Maker, answers_if_open, candidate_of}
+use Rattle.ta_walk.proofs.Common.{exists_as, moment_search, AskedOnce, come_answers}
 use Rattle.ta_moments.proofs.Common.{◌≡◌, inl, inr, ℕ, Bool, true, false, ◌&&◌, cond, List, [], ◌∷◌, map, length, slice_get, Option, Some, None, refl, sym}
 use Rattle.ta_moments.proofs.Common.{subst, AllByRecursion, In, Automaton, Pattern}
-use Rattle.std.specs.Prelude.{nat_lt}
-use Rattle.std.proofs.lemmas.Bool.{cond_both}
-use Rattle.ta_base.proofs.Each.{each_in}
 use Rattle.ta_cert.specs.declared.line.Node.{Node as TreeNode}
-use Rattle.ta_cert.specs.declared.line.Node.TheVariants as node
-use Rattle.ta_encode.specs.Search.{Comes, all_or_none, answered}
-use Rattle.ta_moments.specs.declared.fact.Fact.{Fact}
-use Rattle.ta_moments.specs.declared.fact.Fact.TheVariants.{Never, First, Stands, Last, Before, After, Same, Fails}
-use Rattle.ta_moments.specs.declared.fact.Question.{Question}
-use Rattle.ta_moments.specs.declared.fact.Question.TheVariants.{OfGuard, OfOrder, OfStuck}
-use Rattle.ta_moments.specs.Facts.{guards_of, is_open, question_of}
+use Rattle.ta_moments.specs.Facts.{guards_of}
 use Rattle.ta_moments.specs.Moments.{Known, known}
-use Rattle.ta_moments.specs.Refutes.{Asking, answers, are_pairs}
-use Rattle.ta_moments.specs.Searched.{Maker, answers_if_open, candidate_of, exists_as, moment_search}
+use Rattle.ta_moments.specs.Refutes.{Asking}
 use Rattle.ta_moments.specs.Whole.{AreAnswers}
-use Rattle.ta_moments.specs.Nodes.{AskedOnce}
 use Rattle.ta_moment_tree.specs.Sizes.{AreAnswers as AnswerOpen}
-use Rattle.ta_moment_tree.proofs.ComingFacts.{come_answers, none_begins}
+use Rattle.ta_moment_tree.proofs.ComingFacts.{none_begins}
+use Rattle.ta_cert.specs.declared.line.Node.TheVariants as node
 
 -- a question's answers answer it
 fails_all : (r : ℕ) (gs : List ℕ) → AllByRecursion (λ f. question_of f ≡ OfStuck r) (map (Fails r) gs)

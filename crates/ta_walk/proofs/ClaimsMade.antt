@@ -1,13 +1,9 @@
 -- what is asked at the words of a claim, and how long they are
-use Rattle.ta_automaton.specs.Narrow.{IsNarrow}
-use Rattle.ta_walk.proofs.Common.{◌≡◌, ◌≤◌, ℕ, ℤ, List, [], ◌∷◌, length, arith, ap, refl, PatternOver, NodeOf, WholeNode, claim_legal, Automaton, Pattern}
-use Rattle.ta_walk.proofs.Common.{Element, Node, search_for, Claim, is_complete, children, pattern_search}
-use Rattle.ta_cert.specs.declared.line.Node.TheVariants.{Extend}
-use Rattle.ta_rest.specs.declared.claim.Claim.TheVariants.{Safe, RestSafe}
-use Rattle.ta_encode.specs.Search.{MayAsk}
+use Rattle.ta_walk.proofs.Common.{IsNarrow, ◌≡◌, ◌≤◌, ℕ, ℤ, List, [], ◌∷◌, length, arith, ap, refl, PatternOver, NodeOf, WholeNode, claim_legal, Automaton}
+use Rattle.ta_walk.proofs.Common.{Pattern, Element, Node, search_for, Claim, is_complete, children, pattern_search, Extend, Safe, MayAsk, legal_length}
+use Rattle.ta_rest.specs.declared.claim.Claim.TheVariants.{RestSafe}
 use Rattle.ta_encode.proofs.Asking.{only_asks}
 use Rattle.std.proofs.lemmas.List.{length-reverse}
-use Rattle.ta_words.proofs.Counts.{legal_length}
 use Rattle.ta_walk.proofs.WordsVisited.{starts_wait, left_wait}
 
 -- only Extend asks

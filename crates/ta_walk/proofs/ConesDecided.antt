@@ -1,5 +1,5 @@
 -- where no row has a positive constant, each end of a visit within a budget that suffices decides, unless a number leaves the range
-use Rattle.ta_moments.specs.Questions.{QuestionsMayBeAsked}
+use Rattle.ta_walk.proofs.Common.{QuestionsMayBeAsked}
 use Rattle.ta_walk.proofs.FiniteTrees.{budgets_suffice}
 use Rattle.ta_walk.proofs.NodesMade.{refuted_hold}
 use Rattle.ta_walk.specs.Deciding.{ConesAreDecided}

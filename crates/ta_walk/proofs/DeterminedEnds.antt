@@ -1,8 +1,7 @@
 -- a search has one end, and so has a walk
 use Rattle.ta_walk.proofs.Common.{cases_order, ◌≡◌, inl, inr, ℕ, ◌<◌, List, ℤ, length, arith, refl, sym, ap, ◌∙◌, subst, Node, PlaceKind, NodeAt, WholeAt}
 use Rattle.ta_walk.proofs.Common.{IsOutOfRangeAt, TreeIs, NodeOf, SolutionAt, IsSpent, Ending, Whole, Solved, Stopped, Left, IsVisitEnding}
-use Rattle.ta_walk.proofs.Common.{EndingsAreDetermined, IsWalkEnd, WalksAreDetermined, Pending, Search, WalkEnd}
-use Rattle.ta_words.specs.declared.element.Element.{Element}
+use Rattle.ta_walk.proofs.Common.{EndingsAreDetermined, IsWalkEnd, WalksAreDetermined, Pending, Search, WalkEnd, Element}
 use Rattle.ta_walk.proofs.DeterminedNodes.{whole_once, whole_is_no_node, leaving_is_no_node, leaving_is_not_whole, leaving_once}
 use Rattle.ta_walk.proofs.DeterminedVisits.{tree_once, word_of_tree, word_once, node_at_word}
 use Rattle.ta_encode.specs.declared.encoded.Solution.{Solution}

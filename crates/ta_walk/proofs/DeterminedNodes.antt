@@ -2,10 +2,10 @@
 use Rattle.ta_walk.proofs.Common.{◌≡◌, ◌⊎◌, inl, inr, ℕ, List, None, ap, ◌∙◌, refl, subst, ℤ, Node, LeafStays, Fraction, PlaceKind, SplitsAt, AreNumbers}
 use Rattle.ta_walk.proofs.Common.{NodeAt, WholeAt, IsOutOfRangeAt, SplitVertex, IsScaled, Pending, Search, bounded_rows, sym, Some, OpenVertex, VertexAt}
 use Rattle.ta_walk.proofs.Common.{IsSettled, parts_of}
-use Rattle.ta_cert.specs.declared.line.Node.TheVariants as node
-use Rattle.ta_walk.specs.declared.end.PlaceKind.TheVariants as kind
 use Rattle.ta_walk.proofs.DeterminedOutcomes.{multipliers_at, values_at, no_vertex, counts_at, no_overflow_refuted, no_overflow_vertex}
 use Rattle.ta_walk.proofs.DeterminedValues.{SameSplit, split_once, numbers_once, whole_has_no_split}
+use Rattle.ta_cert.specs.declared.line.Node.TheVariants as node
+use Rattle.ta_walk.specs.declared.end.PlaceKind.TheVariants as kind
 
 split_same : {E : Type 0} (s : Search E) (w : Pending E) (x y : ℕ) (k n : ℤ) → SplitVertex s w x k → SplitVertex s w y n → SameSplit x y k n
 split_same s w x y k n h g =

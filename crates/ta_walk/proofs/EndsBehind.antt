@@ -2,9 +2,9 @@
 use Rattle.ta_walk.proofs.Common.{nat_tests, ◌≡◌, ℕ, ◌+◌, ◌-◌, ◌<◌, ◌≤◌, cond_both, nat_lt, List, [], ◌++◌, length, length-append, arith, refl, subst, Node}
 use Rattle.ta_walk.proofs.Common.{Pending, Search, IsOutOfRangeAt, Visits, IsSpent, NodeOf, TreeKept, IsVisited, WholeNode, leaf_count, TreeEnd, PartEnds}
 use Rattle.ta_walk.proofs.Common.{beginning, behind}
-use Rattle.ta_walk.specs.declared.end.TreeEnd.TheVariants as tree
 use Rattle.ta_walk.proofs.SearchesMoved.{moved_out_of_range, moved_visits, moved_whole}
 use Rattle.ta_walk.proofs.VisitsJoined.{LeftBefore, leaves_added, left_before, left_in_tree, visited_behind, visits_on}
+use Rattle.ta_walk.specs.declared.end.TreeEnd.TheVariants as tree
 
 -- some nodes lead to words
 pub record LeadsTo {E : Type 0} (s : Search E) (ws us : List (Pending E)) (ns : List Node) (count leaves : ℕ) : Type 0 where

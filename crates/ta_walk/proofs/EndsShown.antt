@@ -1,47 +1,35 @@
 -- how a visit of moments ends at a whole node: its run shows the pattern, or a number of the run leaves the range
+use Rattle.ta_walk.proofs.Common.{known_at, moving_rules, reverse, list_all, Comes, Pending, Search, InRange, TreeEnd, IsTreeEnd, NodeOf, IsOutOfRangeAt}
+use Rattle.ta_walk.proofs.Common.{PlaceKind, Fact, QuestionsMayBeAsked, fits, candidate_of, NoQuestionLeavesNothing, MomentEncoding, IsKeptAt, NodeIs}
+use Rattle.ta_walk.proofs.Common.{moment_maker, node_of, asking_of, search_of_moments, EncodesSomeWhole, MomentRunOf, MomentEnd, EndsIn, EndsAtNode}
 use Rattle.ta_moments.proofs.Common.{◌≡◌, ◌∙◌, Bool, ℕ, ◌^◌, ℤ, pos, ◌<ℤ◌, ◌≤ℤ◌, List, [], ◌∷◌, ◌++◌, drop, length, slice_get, true, Some, arith, ints}
 use Rattle.ta_moments.proofs.Common.{and_from, refl, sym, ap, subst, same_Some, AllByRecursion, In, candidates, Automaton, File, Pattern, Moment, Asking}
-use Rattle.ta_moments.proofs.Common.{Known, Node, known_at, moving_rules}
-use Rattle.std.specs.Prelude.{reverse}
-use Rattle.std.specs.List.{list_all}
+use Rattle.ta_moments.proofs.Common.{Known, Node}
 use Rattle.ta_automaton.specs.Numbered.{OfPattern}
 use Rattle.ta_base.proofs.Each.{known_naturals}
 use Rattle.ta_cert.specs.declared.line.Node.{Node as TreeNode}
-use Rattle.ta_encode.specs.Search.{Comes, Pending, Search}
-use Rattle.ta_linear.specs.Numbers.{InRange}
 use Rattle.ta_replay.specs.declared.run.Run.{Run}
-use Rattle.ta_walk.specs.declared.end.TreeEnd.{TreeEnd}
-use Rattle.ta_walk.specs.Ends.{IsTreeEnd, NodeOf, WholeNode as WholeNodeAt}
-use Rattle.ta_walk.specs.Visit.{IsOutOfRangeAt}
-use Rattle.ta_walk.specs.declared.end.PlaceKind.{PlaceKind}
-use Rattle.ta_walk.specs.declared.end.PlaceKind.TheVariants as kind
+use Rattle.ta_walk.specs.Ends.{WholeNode as WholeNodeAt}
 use Rattle.ta_walk.proofs.WordsSolved.{whole_solves}
 use Rattle.ta_walk.proofs.WordsVisited.{left_wait, roots_wait}
-use Rattle.ta_moments.specs.declared.fact.Fact.{Fact}
-use Rattle.ta_moments.specs.Questions.{QuestionsMayBeAsked, fits}
-use Rattle.ta_moments.specs.Searched.{candidate_of}
-use Rattle.ta_moments.specs.Whole.{NoQuestionLeavesNothing, WholeNode}
-use Rattle.ta_moment_tree.specs.declared.encoding.MomentEncoding.{MomentEncoding}
-use Rattle.ta_moment_tree.specs.Kept.{IsKeptAt, NodeIs}
-use Rattle.ta_moment_tree.specs.Makers.{moment_maker, moments_of, node_of}
-use Rattle.ta_moment_tree.specs.Trees.{asking_of, search_of_moments}
+use Rattle.ta_moments.specs.Whole.{WholeNode}
+use Rattle.ta_moment_tree.specs.Makers.{moments_of}
 use Rattle.ta_moment_tree.specs.declared.moment_tree.MomentTree.{MomentTree}
 use Rattle.ta_moment_tree.specs.declared.kept.MomentKept.{MomentKept}
 use Rattle.ta_walk.proofs.Fitting.{fits_in}
-use Rattle.ta_witness.specs.Given.{EncodesSomeWhole, EncodesWhole, LeavesRange, RunOfEncoding}
-use Rattle.ta_witness.specs.MomentRuns.{MomentRunOf}
+use Rattle.ta_witness.specs.Given.{EncodesWhole, LeavesRange, RunOfEncoding}
 use Rattle.ta_witness.specs.Stops.{PiecesTo, event_stops, no_counts, sorted_stops, stops_of}
-use Rattle.ta_walk.specs.declared.moment_end.MomentEnd.{MomentEnd}
 use Rattle.ta_walk.specs.declared.moment_end.MomentEnd.TheVariants.{Refuted, Found as FoundRun, Spent, Overflow}
-use Rattle.ta_walk.specs.MomentEnds.{EndsIn, LostAt}
+use Rattle.ta_walk.specs.MomentEnds.{LostAt}
 use Rattle.ta_walk.specs.Found.{FoundAt, RunAt, RunLeaves, ShownRun}
-use Rattle.ta_walk.specs.Inside.Showing.{EndsAtNode, GivenRun}
+use Rattle.ta_walk.specs.Inside.Showing.{GivenRun}
 use Rattle.ta_walk.proofs.Answered.{comes_once}
 use Rattle.ta_walk.proofs.FormsStay.{moments_stay}
 use Rattle.ta_walk.proofs.NodesMade.{roots_unbounded}
 use Rattle.ta_walk.proofs.RunsOnce.{naturals_once}
 use Rattle.ta_walk.proofs.Taken.{scaled_solve}
 use Rattle.ta_walk.proofs.WholeNodes.{HasValues, whole_node}
+use Rattle.ta_walk.specs.declared.end.PlaceKind.TheVariants as kind
 
 -- ---- numbers in range
 abbrev pub Limited : List ℤ → Type 0

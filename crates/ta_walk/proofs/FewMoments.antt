@@ -1,27 +1,17 @@
 -- how many moments and unknowns a node has to which the search comes
-use Rattle.std.proofs.Common.{◌≡◌, ℕ, ◌+◌, ◌<◌, ◌≤◌, List, [], ◌∷◌, ◌++◌, map, length, slice_get, Option, arith, ap, lit<, ◌^◌}
-use Rattle.std.proofs.lemmas.List.{length-append, length-map}
+use Rattle.ta_walk.proofs.Common.{◌≡◌, ℕ, ◌+◌, ◌<◌, ◌≤◌, List, [], ◌∷◌, ◌++◌, map, length, slice_get, Option, arith, ap, lit<, ◌^◌, length-map, range_with_len}
+use Rattle.ta_walk.proofs.Common.{Automaton, Pattern, PatternOver, Row, Comes, Pending, Fact, Never, First, Stands, Last, Before, After, Same, Vacant, Fails}
+use Rattle.ta_walk.proofs.Common.{question_of, Maker, candidate_of, moment_search, row_of_form, Fraction, VertexAt, come_answers, search_small}
+use Rattle.std.proofs.lemmas.List.{length-append}
 use Rattle.std.proofs.lemmas.List.FromFn.{length-range_with_len}
 use Rattle.std.proofs.lemmas.Option.{slice_get-get_or}
-use Rattle.std.specs.List.{range_with_len}
-use Rattle.ta_automaton.specs.declared.automaton.Automaton.{Automaton}
-use Rattle.ta_automaton.specs.declared.pattern.Pattern.{Pattern}
-use Rattle.ta_automaton.specs.Patterns.{PatternOver}
-use Rattle.ta_linear.specs.declared.row.Row.{Row}
-use Rattle.ta_encode.specs.Search.{Comes, Pending}
-use Rattle.ta_moments.specs.declared.fact.Fact.{Fact}
-use Rattle.ta_moments.specs.declared.fact.Fact.TheVariants.{Never, First, Stands, Last, Before, After, Same, Vacant, Fails}
-use Rattle.ta_moments.specs.Facts.{question_of, sparing, needing}
+use Rattle.ta_moments.specs.Facts.{sparing, needing}
 use Rattle.ta_moments.specs.Forms.{UnknownForm, negated_form, opposite_form}
 use Rattle.ta_moments.specs.Moments.{Known, Moment, Pair, Point, Vector, after_vector, before_vector, below, counters_at, end_vector, event_vector}
 use Rattle.ta_moments.specs.Moments.{first_vector, guard_at, guards, rows_of_first, rows_of_last, steps_less_one, with_fact, with_more}
 unfoldable use Rattle.ta_moments.specs.Moments.{known}
 use Rattle.ta_moments.specs.Refutes.{Asking, Exists}
-use Rattle.ta_moments.specs.Searched.{Maker, candidate_of, moment_search, row_of_form}
-use Rattle.ta_simplex.specs.declared.fraction.Fraction.{Fraction}
-use Rattle.ta_walk.specs.Visit.{VertexAt}
 use Rattle.ta_moment_tree.specs.Sizes.{AreAnswers}
-use Rattle.ta_moment_tree.proofs.ComingFacts.{come_answers, search_small}
 
 -- a guard that exists has a row
 guard_row : (a : Automaton) (p : Pattern) (v : Vector) (g : ℕ) → g < length a.rise + length a.fall → length (guard_at a p v (slice_get (guards a) g)) ≡ 1

@@ -1,5 +1,9 @@
 -- how many questions a node answers where no guard falls: each rise guard, and the order of each two moments, once
-use Rattle.ta_moments.proofs.Common.{◌≡◌, inl, inr, ℕ, zero, suc, ◌+◌, ◌-◌, ◌*◌, ◌<◌, ◌≤◌, Bool, true, false, not, ◌&&◌, cond, false≢true, and_from, and_parts}
+use Rattle.ta_walk.proofs.Common.{and_parts, ◌/◌, nat_lt, mul-suc, suc-mul, each_append, each_at, each_in, each_map_all, no_more, In-left, In-right, in_map}
+use Rattle.ta_walk.proofs.Common.{Distinct, Comes, all_or_none, answered, Fact, Never, First, Stands, Last, Before, After, Same, Vacant, Fails, Question}
+use Rattle.ta_walk.proofs.Common.{OfGuard, OfOrder, OfStuck, is_open, question_of, answers, are_pairs, candidate_of, exists_as, AskedOnce, few_moments}
+use Rattle.ta_walk.proofs.Common.{moment_maker, most_questions}
+use Rattle.ta_moments.proofs.Common.{◌≡◌, inl, inr, ℕ, zero, suc, ◌+◌, ◌-◌, ◌*◌, ◌<◌, ◌≤◌, Bool, true, false, not, ◌&&◌, cond, false≢true, and_from}
 use Rattle.ta_moments.proofs.Common.{List, [], ◌∷◌, ◌++◌, map, length, slice_get, Option, Some, None, arith, refl, sym, ap, ◌∙◌, subst}
 use Rattle.ta_moments.proofs.Common.{cases_lt, eq-eqb, nat_tests, AllByRecursion, range_with_len, length-append, length-map}
 use Rattle.ta_moments.proofs.Common.{length-range_with_len, In, In-map, In-numbers}
@@ -7,27 +11,15 @@ use Rattle.ta_moments.proofs.Common.{Automaton, Pattern, Vector, Moment, Point, 
 use Rattle.ta_moments.proofs.Common.{Exists, Node}
 use Rattle.ta_moments.specs.Moments.{is_pair}
 unfoldable use Rattle.ta_moments.specs.Moments.{known}
-use Rattle.std.specs.Prelude.{◌/◌, nat_lt}
-use Rattle.std.proofs.Math.Nat.{mul-div_left, mul-suc, suc-mul}
-use Rattle.ta_base.proofs.Each.{each_append, each_at, each_in, each_map_all, each_map_of, no_more}
-use Rattle.ta_base.proofs.Members.{In-left, In-right, in_map}
-use Rattle.ta_base.specs.Lists.{Distinct}
+use Rattle.std.proofs.Math.Nat.{mul-div_left}
+use Rattle.ta_base.proofs.Each.{each_map_of}
 use Rattle.ta_cert.specs.declared.line.Node.{Node as TreeNode}
-use Rattle.ta_cert.specs.declared.line.Node.TheVariants as node
-use Rattle.ta_encode.specs.Search.{Comes, all_or_none, answered}
-use Rattle.ta_moments.specs.declared.fact.Fact.{Fact}
-use Rattle.ta_moments.specs.declared.fact.Fact.TheVariants.{Never, First, Stands, Last, Before, After, Same, Vacant, Fails}
-use Rattle.ta_moments.specs.declared.fact.Question.{Question}
-use Rattle.ta_moments.specs.declared.fact.Question.TheVariants.{OfGuard, OfOrder, OfStuck}
-use Rattle.ta_moments.specs.Facts.{is_open, question_of, same_question}
-use Rattle.ta_moments.specs.Refutes.{answers, are_pairs}
-use Rattle.ta_moments.specs.Searched.{candidate_of, exists_as}
+use Rattle.ta_moments.specs.Facts.{same_question}
 use Rattle.ta_moments.specs.Whole.{AreAnswers}
-use Rattle.ta_moments.specs.Nodes.{AskedOnce}
-use Rattle.ta_moments.proofs.Short.{few_moments}
-use Rattle.ta_moment_tree.specs.Makers.{moment_maker, moments_of}
+use Rattle.ta_moment_tree.specs.Makers.{moments_of}
 use Rattle.ta_walk.proofs.Answered.{comes_answered, comes_once}
-use Rattle.ta_walk.specs.Deciding.{most_moments, most_questions}
+use Rattle.ta_walk.specs.Deciding.{most_moments}
+use Rattle.ta_cert.specs.declared.line.Node.TheVariants as node
 
 -- ---- the questions
 abbrev orders_below : ℕ → List Question

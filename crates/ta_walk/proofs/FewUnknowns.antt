@@ -1,24 +1,18 @@
 -- a node to which the search of moments comes has few moments and few unknowns
+use Rattle.ta_walk.proofs.Common.{known_at, moving_rules, PatternOver, Comes, Fact, Never, First, Stands, Last, Before, After, Same, Vacant, Fails, Maker}
+use Rattle.ta_walk.proofs.Common.{candidate_of, moment_search, AskedOnce, few_moments, suc-mul, most_unknowns}
 use Rattle.ta_moments.proofs.Common.{◌≡◌, ℕ, suc, ◌+◌, ◌++◌, ◌*◌, ◌≤◌, Bool, true, false, not, cond, List, [], ◌∷◌, filter, length, Option, arith, ap, refl}
 use Rattle.ta_moments.proofs.Common.{◌∙◌}
 use Rattle.ta_moments.proofs.Common.{length-append, length-map, range_with_len, length-range_with_len, Automaton, Pattern, Vector, Point, Pair, Known, Asking}
-use Rattle.ta_moments.proofs.Common.{Node, known_at, is_moving, moving_rules, needing, sparing, has_guard, slice_get, event_vector, end_vector}
+use Rattle.ta_moments.proofs.Common.{Node, is_moving, needing, sparing, has_guard, slice_get, event_vector, end_vector}
 use Rattle.ta_moments.proofs.Common.{unknowns_at_first, first_vector, before_vector, after_vector, with_fact}
 unfoldable use Rattle.ta_moments.specs.Moments.{known}
 use Rattle.ta_base.proofs.Ranges.{count_few}
-use Rattle.ta_automaton.specs.Patterns.{PatternOver}
-use Rattle.ta_encode.specs.Search.{Comes}
 use Rattle.ta_encode.specs.Unknowns.{start_meanings}
-use Rattle.ta_moments.specs.declared.fact.Fact.{Fact}
-use Rattle.ta_moments.specs.declared.fact.Fact.TheVariants.{Never, First, Stands, Last, Before, After, Same, Vacant, Fails}
-use Rattle.ta_moments.specs.Searched.{Maker, candidate_of, moment_search}
 use Rattle.ta_moments.specs.Whole.{AreAnswers}
-use Rattle.ta_moments.specs.Nodes.{AskedOnce}
-use Rattle.ta_moments.proofs.Short.{few_moments}
 use Rattle.std.proofs.Common.{mul-le-mul}
-use Rattle.std.proofs.Math.Nat.{mul-le-mul_right, suc-mul}
+use Rattle.std.proofs.Math.Nat.{mul-le-mul_right}
 use Rattle.ta_moments.specs.Moments.{Moment}
-use Rattle.ta_walk.specs.Ends.{most_unknowns}
 use Rattle.ta_encode.proofs.Drafts.{start_few}
 use Rattle.ta_walk.proofs.Answered.{comes_answered, comes_once}
 

@@ -1,23 +1,17 @@
 -- a tree of questions with two answers each is finite: so many nodes are spent only where one is split
+use Rattle.ta_walk.proofs.Common.{root, mul-suc, suc-mul, each_append, Node, Answers, Comes, Pending, Search, answered, longer, parts, IsUnbounded, NodeAt}
+use Rattle.ta_walk.proofs.Common.{SplitVertex, Visits, Fact, QuestionsMayBeAsked, IsCone, pending_of, moment_maker, most_questions}
 use Rattle.ta_moments.proofs.Common.{◌≡◌, ◌⊎◌, inl, inr, ℕ, ℤ, zero, suc, ◌+◌, ◌-◌, ◌*◌, ◌<◌, ◌≤◌, ◌^◌, List, [], ◌∷◌, ◌++◌, map, length}
-use Rattle.ta_moments.proofs.Common.{Option, arith, refl, sym, ap, subst, ◌∙◌, AllByRecursion, In, Automaton, Pattern, candidates, of_events, root}
-use Rattle.std.proofs.Math.Nat.{mul-suc, pow-suc, suc-mul, zero-mul}
-use Rattle.ta_base.proofs.Each.{all_both, each_append}
-use Rattle.ta_cert.specs.declared.line.Node.{Node}
-use Rattle.ta_cert.specs.declared.line.Node.TheVariants as node
-use Rattle.ta_encode.specs.Search.{Answers, Comes, Pending, Search, answered, longer, parts}
+use Rattle.ta_moments.proofs.Common.{Option, arith, refl, sym, ap, subst, ◌∙◌, AllByRecursion, In, Automaton, Pattern, candidates, of_events}
+use Rattle.std.proofs.Math.Nat.{pow-suc, zero-mul}
+use Rattle.ta_base.proofs.Each.{all_both}
 use Rattle.ta_walk.proofs.WordsVisited.{Waits, roots_wait}
-use Rattle.ta_walk.specs.Ends.{IsUnbounded}
-use Rattle.ta_walk.specs.Visit.{NodeAt, SplitVertex, Visits}
-use Rattle.ta_moments.specs.declared.fact.Fact.{Fact}
-use Rattle.ta_moments.specs.Questions.{QuestionsMayBeAsked}
-use Rattle.ta_moments.specs.Scaled.{IsCone}
-use Rattle.ta_moments.specs.Searched.{pending_of}
-use Rattle.ta_moment_tree.specs.Makers.{moment_maker, moments_of}
+use Rattle.ta_moment_tree.specs.Makers.{moments_of}
 use Rattle.ta_walk.proofs.FewQuestions.{few_answers, few_questions}
 use Rattle.ta_walk.proofs.NodesMade.{roots_unbounded}
 use Rattle.ta_walk.proofs.NoneSplit.{none_split}
-use Rattle.ta_walk.specs.Deciding.{BudgetsOfConesSuffice, most_nodes, most_questions}
+use Rattle.ta_walk.specs.Deciding.{BudgetsOfConesSuffice, most_nodes}
+use Rattle.ta_cert.specs.declared.line.Node.TheVariants as node
 
 -- the nodes of a full binary tree of a depth
 abbrev full : ℕ → ℕ

@@ -1,12 +1,10 @@
 -- sums of products that may leave the range
-use Rattle.std.proofs.Common.{Bool, true, false, ◌≡◌, ◌≢◌, inl, inr, ℕ, zero, suc, ◌*◌, ◌+◌, ◌<◌, ◌≤◌, ◌^◌, ℤ, pos, negsuc, ◌+ℤ◌, ◌*ℤ◌, List, Option, Some}
-use Rattle.std.proofs.Common.{None, cond, arith, sym, ap, ◌∙◌, refl, subst, get_or, ◌&&◌}
-use Rattle.std.specs.Prelude.{SomeIff, unsigned_abs}
+use Rattle.ta_walk.proofs.Common.{Bool, true, false, ◌≡◌, ◌≢◌, inl, inr, ℕ, zero, suc, ◌*◌, ◌+◌, ◌<◌, ◌≤◌, ◌^◌, ℤ, pos, negsuc, ◌+ℤ◌, ◌*ℤ◌, List, Option, Some}
+use Rattle.ta_walk.proofs.Common.{None, arith, sym, ap, ◌∙◌, refl, subst, get_or, SomeIff, unsigned_abs, nat_tests, ints, InRange, fits, if_fits, with_product}
+use Rattle.ta_walk.proofs.Common.{with_products}
+use Rattle.std.proofs.Common.{cond, ◌&&◌}
 use Rattle.std.proofs.lemmas.Bool.{cases_lt}
-use Rattle.std.proofs.lemmas.Bool.Decides.{nat_tests}
-use Rattle.std.proofs.lemmas.Int.{ints, unsigned_abs-mul}
-use Rattle.ta_linear.specs.Numbers.{InRange}
-use Rattle.ta_moments.specs.Questions.{fits, if_fits, with_product, with_products}
+use Rattle.std.proofs.lemmas.Int.{unsigned_abs-mul}
 
 pub fits_in : (z : ℤ) → InRange z → fits z ≡ true
 fits_in z h = let less : unsigned_abs z < 2 ^ 127 = h in grind (arith, nat_tests)
@@ -39,13 +37,6 @@ multiple_out d f out h =
     let more = times_more (unsigned_abs d) (unsigned_abs f) (not_zero f h) in
     let same = unsigned_abs-mul d f in
     omega (arith, less, more, same)))))
-
--- one more product
-pub with_none : (sum p : ℤ) → None ≡ if_fits p → None ≡ with_product (Some sum) p
-with_none sum p e = by_fit (fits p) e where
-  by_fit : (b : Bool) → None ≡ cond b (Some p) None → None ≡ cond (b && fits (sum +ℤ p)) (Some (sum +ℤ p)) None
-  by_fit true e = absurd (cc)
-  by_fit false e = refl
 
 pub with_some : (sum p q : ℤ) (o : Option ℤ) → Some q ≡ if_fits p → SomeIff o (InRange (sum +ℤ q)) (sum +ℤ q) → o ≡ with_product (Some sum) p
 with_some sum p q o e h = by_fit (fits p) e (if_fits_is o (sum +ℤ q) h) where

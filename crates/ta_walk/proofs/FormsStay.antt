@@ -1,24 +1,20 @@
 -- no form of a moment's vector leaves the range at natural values in range: each is 0, an unknown, or the difference of two
+use Rattle.ta_walk.proofs.Common.{each_append, each_map_all, coefficient-below, InRange, IsNormal, Fact, Never, First, Stands, Last, Before, After, Same}
+use Rattle.ta_walk.proofs.Common.{Vacant, Fails, vector_of, moment_of}
 use Rattle.ta_moments.proofs.Common.{◌≡◌, ◌⊎◌, inl, inr, ℕ, zero, suc, ◌+◌, ◌<◌, ◌≤◌, ◌^◌, ℤ, pos, negsuc, ◌+ℤ◌, ◌-ℤ◌, ◌*ℤ◌, ◌≤ℤ◌, List, [], ◌∷◌, length}
 use Rattle.ta_moments.proofs.Common.{Option, Some, None, eqb, cond, arith, ints, refl, sym, ap, ◌∙◌, subst, nat_tests, eqb_tells, cases_eq, one_if, one_times}
 use Rattle.ta_moments.proofs.Common.{by_one, range_with_len, AllByRecursion, In, coefficient, Form, Automaton, Pattern, UnknownForm, minus_form, plus_form}
 use Rattle.ta_moments.proofs.Common.{Vector, Moment, Point, Pair, Known, nothing_fired, event_vector, end_vector, first_vector, step_vector, before_vector}
 use Rattle.ta_moments.proofs.Common.{after_vector, with_fact, needing, sparing}
 unfoldable use Rattle.ta_moments.specs.Moments.{fresh, known}
-use Rattle.ta_base.proofs.Each.{each_append, each_map_all}
 use Rattle.std.proofs.Math.IntN.{*ℤ-zero}
 use Rattle.ta_base.proofs.Integers.{minus_one_times}
 use Rattle.ta_base.proofs.Naturals.{cond_apart, cond_same}
-use Rattle.ta_linear.proofs.TermLemmas.{coefficient-below}
-use Rattle.ta_linear.specs.Numbers.{InRange}
 use Rattle.ta_linear.specs.Sums.{StaysInRange}
-use Rattle.ta_linear.specs.Terms.{IsNormal}
 use Rattle.ta_linear.specs.Values.{point_of}
-use Rattle.ta_moments.specs.declared.fact.Fact.{Fact}
-use Rattle.ta_moments.specs.declared.fact.Fact.TheVariants.{Never, First, Stands, Last, Before, After, Same, Vacant, Fails}
 use Rattle.ta_moments.proofs.Reading.{fresh_out, needed_out}
-use Rattle.ta_moment_tree.specs.Forms.{form_of, vector_of}
-use Rattle.ta_moment_tree.specs.Moments.{moment_of, moments_of}
+use Rattle.ta_moment_tree.specs.Forms.{form_of}
+use Rattle.ta_moment_tree.specs.Moments.{moments_of}
 use Rattle.ta_moment_tree.specs.declared.moment.Moment.{Moment as KeptMoment}
 use Rattle.ta_moment_tree.specs.declared.moment.Moment.TheVariants.{Point as KeptPoint, Pair as KeptPair}
 use Rattle.ta_witness.specs.Given.{MomentStays, VectorStays}

@@ -1,22 +1,16 @@
 -- fractions in lowest terms, and their common denominators
-use Rattle.std.proofs.Common.{◌≡◌, ◌∙◌, ℕ, ◌+◌, ◌/◌, ◌%◌, ◌<◌, ◌≤◌, ℤ, List, [], ◌∷◌, ◌++◌, Bool, true, false}
-use Rattle.std.proofs.Common.{Option, Some, None, cond, ◌&&◌, arith, ap, refl, sym}
-use Rattle.std.proofs.Common.{append-nil, append_assoc, drop, get_or, length}
-use Rattle.std.proofs.lemmas.List.{drop_all, drop_more, length-map}
-use Rattle.ta_linear.specs.Numbers.{InRange}
-use Rattle.ta_moments.specs.Questions.{fits}
-use Rattle.std.specs.Int.{IsGcd}
-use Rattle.std.specs.List.{list_all}
+use Rattle.ta_walk.proofs.Common.{◌≡◌, ◌∙◌, ℕ, ◌+◌, ◌/◌, ◌%◌, ◌<◌, ◌≤◌, ℤ, List, [], ◌∷◌, ◌++◌, Bool, true, false, Option, Some, None, arith, ap, refl, sym}
+use Rattle.ta_walk.proofs.Common.{append-nil, append_assoc, drop, get_or, length, length-map, InRange, fits, IsGcd, list_all, gcd_of_is, gcd_of}
+use Rattle.ta_walk.proofs.Common.{PositiveDenominators, common_denominator, multiple_of, number_over, numbers_over, Fraction}
+use Rattle.std.proofs.Common.{cond, ◌&&◌}
+use Rattle.std.proofs.lemmas.List.{drop_all, drop_more}
 use Rattle.std.proofs.Math.Nat.{one-dvd}
 use Rattle.std.proofs.lemmas.Nat.Gcd.{IsGcd-from_mod, dvd_refl, le_of_dvd}
-use Rattle.ta_linear.proofs.GcdLemmas.{gcd_of_is}
-use Rattle.ta_linear.specs.Gcd.{gcd_of}
-use Rattle.ta_moments.specs.Vertices.{PositiveDenominators, common_denominator, lowest_denominator, multiple_of, number_over, numbers_over}
+use Rattle.ta_moments.specs.Vertices.{lowest_denominator}
 unfoldable use Rattle.ta_moments.specs.Vertices.{denominator_with}
 use Rattle.ta_moments.proofs.Fractions.{over_common, with_divides, with_some}
 use Rattle.ta_walk.proofs.Fitting.{fits_in, fits_not}
 use Rattle.ta_simplex.specs.Vertex.{parts_of}
-use Rattle.ta_simplex.specs.declared.fraction.Fraction.{Fraction}
 
 pub divisor_is : (t b g : ℕ) → IsGcd b (t % b) g → g ≡ gcd_of t b
 divisor_is t b g h = gcd_of_is t b g (IsGcd-from_mod t b g h)

@@ -1,12 +1,7 @@
 -- terms of two lists, taken by rising unknown
-use Rattle.std.proofs.Common.{◌≡◌, ℕ, ℤ, pos, ◌+◌, ◌<◌, ◌≤◌, ◌^◌, ◌*ℤ◌, ◌-ℤ◌, List, [], ◌∷◌, length, get_or}
-use Rattle.std.proofs.Common.{Option, Some, None, arith, ap, ◌∙◌}
-use Rattle.std.proofs.lemmas.Int.{ints}
-use Rattle.std.proofs.lemmas.Bool.Decides.{nat_tests}
-use Rattle.ta_linear.specs.Numbers.{InRange}
-use Rattle.ta_linear.specs.Terms.{coefficient, IsNormal}
-use Rattle.ta_linear.proofs.TermLemmas.{IsNormal-le, coefficient-below}
-use Rattle.ta_moments.specs.Questions.{with_product, with_products}
+use Rattle.ta_walk.proofs.Common.{◌≡◌, ℕ, ℤ, pos, ◌+◌, ◌<◌, ◌≤◌, ◌^◌, ◌*ℤ◌, List, [], ◌∷◌, length, get_or, Option, Some, None, arith, ap, ◌∙◌, ints, nat_tests}
+use Rattle.ta_walk.proofs.Common.{InRange, coefficient, IsNormal, IsNormal-le, coefficient-below, with_product, with_products}
+use Rattle.std.proofs.Common.{◌-ℤ◌}
 use Rattle.ta_walk.specs.NextTerms.{IsTaken, AreNextTerms}
 use Rattle.ta_walk.proofs.Fitting.{none_stays, one_more, skip, with_fits}
 

@@ -1,9 +1,8 @@
 -- how many nodes parts of a visit begin
+use Rattle.ta_walk.proofs.Common.{nat_tests, ◌≡◌, ℕ, ◌+◌, ◌*◌, ◌-◌, ◌<◌, ◌≤◌, cond_both, nat_lt, arith, IfOk, Ok, IsCounted, Rose, RoseBy, TreeEnd, behind}
+use Rattle.ta_walk.proofs.Common.{most_begun, node_count, Result, Err}
 use Rattle.std.proofs.Math.Nat.{add-mul}
 use Rattle.std.proofs.lemmas.Nat.{mul-le}
-use Rattle.ta_walk.proofs.Common.{nat_tests, ◌≡◌, ℕ, ◌+◌, ◌*◌, ◌-◌, ◌<◌, ◌≤◌, cond_both, nat_lt, arith, IfOk, Ok, IsCounted, Rose, RoseBy, TreeEnd, behind}
-use Rattle.ta_walk.proofs.Common.{most_begun, node_count}
-use Rattle.std.specs.Prelude.{Result, Err}
 use Rattle.ta_walk.specs.declared.end.TreeEnd.TheVariants as tree
 
 -- a visit that came to an end behind some nodes has this total, within the budget

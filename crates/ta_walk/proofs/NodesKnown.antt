@@ -1,26 +1,13 @@
 -- rows that are known at whole values and met there
-use Rattle.std.proofs.Common.{◌≡◌, ◌≢◌, ◌∙◌, ℕ, ℤ, pos, ◌<ℤ◌, ◌*ℤ◌, List, ◌++◌, length, Bool, true, false, Option, Some, None, not, ◌&&◌, arith, ap, sym}
-use Rattle.std.proofs.lemmas.Int.{ints}
-use Rattle.std.specs.List.{list_all}
-use Rattle.std.specs.Option.{is_some}
-use Rattle.std.proofs.lemmas.List.{length-map}
-use Rattle.ta_automaton.specs.declared.automaton.Automaton.{Automaton}
-use Rattle.ta_automaton.specs.declared.pattern.Pattern.{Pattern}
-use Rattle.ta_encode.specs.declared.meaning.Bound.{Bound}
-use Rattle.ta_linear.specs.Numbers.{InRange}
-use Rattle.ta_moments.specs.declared.fact.Fact.{Fact}
+use Rattle.ta_walk.proofs.Common.{◌≡◌, ◌≢◌, ◌∙◌, ℕ, ℤ, pos, ◌<ℤ◌, ◌*ℤ◌, List, ◌++◌, length, Bool, true, false, Option, Some, None, arith, ap, sym, ints}
+use Rattle.ta_walk.proofs.Common.{list_all, is_some, length-map, Automaton, Pattern, Bound, InRange, Fact, Values, if_fits, is_known_natural, known_value}
+use Rattle.ta_walk.proofs.Common.{next_question, forms_of, moment_of, bound_forms, bounded_node, MomentEncoding, NodeIs, may_take, whole_values}
+use Rattle.std.proofs.Common.{not, ◌&&◌}
 use Rattle.ta_moments.specs.Forms.{UnknownForm}
 use Rattle.ta_moments.specs.Moments.{Known, known}
-use Rattle.ta_moments.specs.Questions.{Values, if_fits, is_known_natural, known_value, next_question}
 use Rattle.ta_moments.specs.Refutes.{Asking, node_rows}
 use Rattle.ta_moment_tree.specs.Draft.{known_of}
-use Rattle.ta_moment_tree.specs.Forms.{forms_of}
-use Rattle.ta_moment_tree.specs.Moments.{moment_of}
 use Rattle.ta_moment_tree.specs.Nodes.{IsAnyNode}
-use Rattle.ta_moment_tree.specs.Systems.{bound_forms, bounded_node}
-use Rattle.ta_moment_tree.specs.declared.encoding.MomentEncoding.{MomentEncoding}
-use Rattle.ta_moment_tree.specs.Kept.{NodeIs}
-use Rattle.ta_moment_tree.specs.Makers.{may_take, whole_values}
 use Rattle.ta_walk.specs.declared.moment_vertex.Vertex.{Vertex}
 use Rattle.ta_walk.specs.Values.{values_of}
 use Rattle.ta_walk.proofs.Fitting.{multiple_out, none_stays}

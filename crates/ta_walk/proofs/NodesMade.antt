@@ -1,46 +1,27 @@
 -- Why the trees of moments that a visit refutes are a proof: their nodes refute in order that with which the search begins, and each can
 -- be written in a line. A guard is asked at most once, so a node has few unknowns and a leaf few multipliers; a budget below 2 ^ 32
 -- bounds the bounds
+use Rattle.ta_walk.proofs.Common.{and_parts, root, lit<, is_some, PatternOver, IsNode, Node, IsJudged, variables, SystemAt, RefutedInOrder, IsLeaf, MayAsk}
+use Rattle.ta_walk.proofs.Common.{Pending, Search, bounded_rows, parts, rows_count, in_order, weaker_proof, System, few_multipliers, HasFewPairs, IsProof}
+use Rattle.ta_walk.proofs.Common.{IsUnbounded, TreeIs, most_unknowns, NodeAt, Visits, Fact, Question, OfGuard, OfOrder, OfStuck, is_open, Maker}
+use Rattle.ta_walk.proofs.Common.{answers_if_open, candidate_of, exists_as, moment_search, pending_of, exists_same, search_small, moment_maker}
 use Rattle.ta_walk.proofs.ProofsMade.{refuted_in_order}
 use Rattle.ta_walk.proofs.NodesWritten.{node_written}
 use Rattle.ta_walk.proofs.NodesShort.{nodes_short}
 use Rattle.ta_walk.proofs.WordsVisited.{Waits, next_wait, roots_wait}
 use Rattle.ta_moments.proofs.Common.{◌≡◌, inl, inr, ℕ, ◌+◌, ◌<◌, ◌≤◌, ◌^◌, Bool, true, false, ◌&&◌, cond, List, [], ◌∷◌, ◌++◌, length, map, slice_get, Option}
-use Rattle.ta_moments.proofs.Common.{Some, None, arith, refl, sym, ap, ◌∙◌, subst, false≢true, and_parts, cases_lt, same_Some, slice_get_past, AllByRecursion}
-use Rattle.ta_moments.proofs.Common.{Automaton, Pattern, may_be_stuck, root, after_earlier, pattern_within}
-use Rattle.std.proofs.Common.{lit<}
-use Rattle.std.specs.Option.{is_some}
-use Rattle.ta_automaton.specs.Patterns.{PatternOver}
-use Rattle.ta_cert.specs.Lines.{IsNode}
-use Rattle.ta_cert.specs.declared.line.Node.{Node}
-use Rattle.ta_cert.specs.declared.line.Node.TheVariants as node
-use Rattle.ta_encode.specs.Range.{IsJudged}
-use Rattle.ta_dense.specs.Slack.{variables}
-use Rattle.ta_encode.specs.Code.{SystemAt}
-use Rattle.ta_encode.specs.InPreorder.{RefutedInOrder}
-use Rattle.ta_encode.specs.Refutes.{IsLeaf}
-use Rattle.ta_encode.specs.Search.{MayAsk, Pending, Search, bounded_rows, parts}
-use Rattle.ta_encode.proofs.CodeRows.{rows_count}
-use Rattle.ta_encode.proofs.Preorders.{in_order, weaker_proof}
-use Rattle.ta_linear.specs.declared.row.System.{System}
-use Rattle.ta_simplex.proofs.FewMultipliers.{few_multipliers}
-use Rattle.ta_walk.specs.Ends.{HasFewPairs, IsProof, IsUnbounded, TreeIs, most_unknowns}
-use Rattle.ta_walk.specs.Visit.{NodeAt, Visits}
-use Rattle.ta_moments.specs.declared.fact.Fact.{Fact}
-use Rattle.ta_moments.specs.declared.fact.Question.{Question}
-use Rattle.ta_moments.specs.declared.fact.Question.TheVariants.{OfGuard, OfOrder, OfStuck}
-use Rattle.ta_moments.specs.Facts.{candidates, is_open}
+use Rattle.ta_moments.proofs.Common.{Some, None, arith, refl, sym, ap, ◌∙◌, subst, false≢true, cases_lt, same_Some, slice_get_past, AllByRecursion}
+use Rattle.ta_moments.proofs.Common.{Automaton, Pattern, may_be_stuck, after_earlier, pattern_within}
+use Rattle.ta_moments.specs.Facts.{candidates}
 use Rattle.ta_moments.specs.Moments.{known}
 use Rattle.ta_moments.specs.Refutes.{Asking, Exists, of_events, of_rest}
-use Rattle.ta_moments.specs.Searched.{Maker, answers_if_open, candidate_of, exists_as, moment_search, pending_of}
 use Rattle.ta_moments.proofs.Certifying.{nodes_show, rest_nodes_show}
-use Rattle.ta_moments.proofs.Searching.{exists_same}
-use Rattle.ta_moment_tree.proofs.ComingFacts.{search_small}
-use Rattle.ta_moment_tree.specs.Makers.{moment_maker, moments_of}
+use Rattle.ta_moment_tree.specs.Makers.{moments_of}
 use Rattle.ta_rest.specs.Endings.{IsEnding}
 use Rattle.ta_witness.proofs.OwnRuns.{ending_at}
 use Rattle.ta_walk.specs.Laws.{RefutedMomentsHold, RefutedRestMomentsHold}
 use Rattle.ta_walk.proofs.FewUnknowns.{comes_few}
+use Rattle.ta_cert.specs.declared.line.Node.TheVariants as node
 
 -- ---- what is asked
 asked_so : (b : Bool) (es : List Fact) → is_some (cond b (Some es) None) ≡ true → b ≡ true

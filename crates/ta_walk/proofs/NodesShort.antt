@@ -1,13 +1,11 @@
 -- the nodes of a walk are short
-use Rattle.ta_automaton.specs.Narrow.{IsNarrow}
-use Rattle.ta_walk.proofs.Common.{ℕ, ◌+◌, ◌*◌, ◌<◌, ◌≤◌, ◌^◌, ℤ, List, [], ◌∷◌, ◌++◌, length, arith, length-append, codes, decimal, lit<, ints, AllByRecursion}
-use Rattle.ta_walk.proofs.Common.{row_short, number_short, Automaton, Pattern, LegalWord, Node, pair_text, pairs_text, split_text, IsMultiplierPair, ArePairs}
-use Rattle.ta_walk.proofs.Common.{IsSplit, IsNode, few_multipliers, NodeAt, Visits, HasFewPairs, IsShort, Pending, parts, few_unknowns, PatternOver}
-use Rattle.ta_walk.proofs.Common.{claim_legal, claim_unknowns, search_for, Claim}
-use Rattle.ta_words.specs.declared.element.Element.{Element}
+use Rattle.ta_walk.proofs.Common.{IsNarrow, ℕ, ◌+◌, ◌*◌, ◌<◌, ◌≤◌, ◌^◌, ℤ, List, [], ◌∷◌, ◌++◌, length, arith, length-append, codes, decimal, lit<, ints}
+use Rattle.ta_walk.proofs.Common.{AllByRecursion, row_short, number_short, Automaton, Pattern, LegalWord, Node, pair_text, pairs_text, split_text}
+use Rattle.ta_walk.proofs.Common.{IsMultiplierPair, ArePairs, IsSplit, IsNode, few_multipliers, NodeAt, Visits, HasFewPairs, IsShort, Pending, parts}
+use Rattle.ta_walk.proofs.Common.{few_unknowns, PatternOver, claim_legal, claim_unknowns, search_for, Claim, Element}
 use Rattle.std.specs.Fmt.{signed_decimal}
-use Rattle.ta_cert.specs.declared.line.Node.TheVariants as node
 use Rattle.ta_walk.proofs.WordsVisited.{Waits, next_wait}
+use Rattle.ta_cert.specs.declared.line.Node.TheVariants as node
 
 -- a pair has at most 51 bytes
 pair_short : (t : ℕ × ℤ) → IsMultiplierPair t → length (pair_text t) ≤ 51

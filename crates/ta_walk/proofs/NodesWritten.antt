@@ -1,11 +1,10 @@
 -- the nodes of a walk can be written
 use Rattle.ta_walk.proofs.Common.{ℕ, ◌+◌, ◌<◌, ◌≤◌, ◌^◌, ℤ, List, [], ◌∷◌, length, arith, subst, below_limit, InRange, coefficient, AreMultipliers, System}
-use Rattle.ta_walk.proofs.Common.{Node, ArePairs, IsNode, variables, NodeAt, SystemAt, Pending, Search}
-use Rattle.ta_cert.specs.declared.line.Node.TheVariants as node
-use Rattle.ta_encode.specs.Search.{MayAsk}
+use Rattle.ta_walk.proofs.Common.{Node, ArePairs, IsNode, variables, NodeAt, SystemAt, Pending, Search, MayAsk}
 use Rattle.ta_walk.proofs.TableausInRange.{multipliers_fit}
 use Rattle.ta_walk.proofs.SplitsFit.{split_within, split_fits}
 use Rattle.ta_simplex.proofs.MultiplierCoefficients.{coefficient_first, coefficient_after}
+use Rattle.ta_cert.specs.declared.line.Node.TheVariants as node
 
 -- multipliers in range are pairs
 pub are_pairs : (low count : ℕ) (ts : List (ℕ × ℤ)) → count ≤ 2 ^ 32 → AreMultipliers low count ts

@@ -1,28 +1,16 @@
 -- no node is split where no row has a positive constant, unless a number leaves the range
+use Rattle.ta_walk.proofs.Common.{known_at, list_all, is_some, solution_of, AreRowsOf, Comes, Pending, some_both, Fraction, IsUnbounded, VertexAt, Fact}
+use Rattle.ta_walk.proofs.Common.{Question, QuestionsMayBeAsked, Values, is_known_natural, known_value, natural_values, next_question, IsCone, candidate_of}
+use Rattle.ta_walk.proofs.Common.{row_of_form, common_denominator, number, may_take, moment_maker, node_of, scaled_in, whole_values}
 use Rattle.ta_moments.proofs.Common.{◌≡◌, inl, inr, ℕ, ◌<◌, ℤ, pos, negsuc, ◌*ℤ◌, ◌≤ℤ◌, ◌&&◌, Bool, true, false, not, false≢true, cond, List, [], ◌∷◌, ◌++◌}
 use Rattle.ta_moments.proofs.Common.{map, get_or, slice_get, Option, Some, None, arith, ints, refl, sym, ap, ◌∙◌}
 use Rattle.ta_moments.proofs.Common.{subst, In, Automaton, Pattern, bound_row, Bound}
-use Rattle.ta_moments.proofs.Common.{UnknownForm, known_at, node_rows, of_events}
-use Rattle.std.specs.List.{list_all}
-use Rattle.std.specs.Option.{is_some}
-use Rattle.ta_encode.proofs.CodeRows.{solution_of}
-use Rattle.ta_encode.specs.Code.{AreRowsOf}
-use Rattle.ta_encode.specs.Search.{Comes, Pending}
-use Rattle.ta_simplex.proofs.WholeLemmas.{some_both}
+use Rattle.ta_moments.proofs.Common.{UnknownForm, node_rows, of_events}
 use Rattle.ta_simplex.specs.Vertex.{parts_of}
-use Rattle.ta_simplex.specs.declared.fraction.Fraction.{Fraction}
-use Rattle.ta_walk.specs.Ends.{IsUnbounded}
-use Rattle.ta_walk.specs.Visit.{VertexAt}
-use Rattle.ta_moments.specs.declared.fact.Fact.{Fact}
-use Rattle.ta_moments.specs.declared.fact.Question.{Question}
-use Rattle.ta_moments.specs.Questions.{QuestionsMayBeAsked, Values, is_known_natural, known_value, natural_values, next_question}
-use Rattle.ta_moments.specs.Scaled.{IsCone}
-use Rattle.ta_moments.specs.Searched.{candidate_of, row_of_form}
-use Rattle.ta_moments.specs.Vertices.{common_denominator, values_of}
+use Rattle.ta_moments.specs.Vertices.{values_of}
 use Rattle.ta_moments.proofs.Cones.{none_positive}
 use Rattle.ta_moments.proofs.Fractions.{denominators_least}
-use Rattle.ta_moments.proofs.Worth.{number}
-use Rattle.ta_moment_tree.specs.Makers.{may_take, moment_maker, moments_of, node_of, scaled_in, whole_values}
+use Rattle.ta_moment_tree.specs.Makers.{moments_of}
 use Rattle.ta_walk.proofs.Answered.{comes_answered}
 use Rattle.ta_walk.proofs.RowsMet.{Met, known_is, mapped_at, rows_met}
 use Rattle.ta_walk.proofs.ScaledQuestions.{none_scaled}

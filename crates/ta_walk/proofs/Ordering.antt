@@ -1,12 +1,8 @@
 -- orders of moments, one after another
-use Rattle.std.proofs.Common.{Bool, false, ◌≡◌, ℕ, suc, ◌+◌, ◌-◌, ◌<◌, List, ◌∷◌, Option, Some, None, cond, arith, sym, ap, ◌∙◌, refl}
-use Rattle.std.specs.Prelude.{is_some}
-use Rattle.std.specs.List.{find, range_with_len}
-use Rattle.std.specs.Option.{option_or}
-use Rattle.ta_moments.specs.declared.fact.Fact.{Fact}
-use Rattle.ta_moments.specs.declared.fact.Question.{Question}
+use Rattle.ta_walk.proofs.Common.{Bool, false, ◌≡◌, ℕ, suc, ◌+◌, ◌-◌, ◌<◌, List, ◌∷◌, Option, Some, None, arith, sym, ap, ◌∙◌, refl, is_some, find}
+use Rattle.ta_walk.proofs.Common.{range_with_len, option_or, Fact, Question, Values, first_order, order_before}
+use Rattle.std.proofs.Common.{cond}
 use Rattle.ta_moments.specs.Moments.{Moment}
-use Rattle.ta_moments.specs.Questions.{Values, first_order, order_before}
 
 range_next : (x n : ℕ) → x < n → range_with_len x (n - x) ≡ x ∷ range_with_len (x + 1) (n - (x + 1))
 range_next x n b = ap (range_with_len x) (let e : n - x ≡ suc (n - (x + 1)) = omega arith in e)

@@ -3,9 +3,9 @@ use Rattle.ta_walk.proofs.Common.{◌≡◌, inl, inr, ℕ, zero, suc, ℤ, List
 use Rattle.ta_walk.proofs.Common.{CheckStays, ImplySystem, LeafOf, OverflowsAt, IsRefuted, IsVertex, Fraction, end_once, none_beside, FoundAfter, FoundBefore}
 use Rattle.ta_walk.proofs.Common.{FoundOrdersAreDetermined, RefutedPair, TryAnswers}
 use Rattle.ta_walk.proofs.DeterminedOutcomes.{multipliers_of}
-use Rattle.ta_simplex.specs.declared.End.TheVariants as end
 use Rattle.ta_implied.proofs.PairNumbers.{pair_numbers}
 use Rattle.ta_walk.proofs.PairSystems.{check_alike}
+use Rattle.ta_simplex.specs.declared.End.TheVariants as end
 
 -- a pair is refuted with one list of multipliers
 pub refuted_once : (a : Automaton) (before after : ℕ) (ts us : List (ℕ × ℤ)) → RefutedPair a before after ts → RefutedPair a before after us → ts ≡ us

@@ -4,13 +4,13 @@ use Rattle.ta_walk.proofs.Common.{map-append, row_short, each_push, Automaton, I
 use Rattle.ta_walk.proofs.Common.{IsPair, ChainLeads, IsShown, few_multipliers, AreSoundOrders, FoundAfter, FoundBefore, FoundOrdersAreSound, IsTaken}
 use Rattle.ta_walk.proofs.Common.{RefutedPair, TryAnswers}
 use Rattle.ta_cert.specs.Laws.{AreShort}
-use Rattle.ta_cert.specs.declared.line.Line.TheVariants as line
-use Rattle.ta_cert.specs.declared.line.Node.TheVariants as node
 use Rattle.ta_implied.proofs.Joining.{good_behind}
 use Rattle.ta_walk.proofs.TableausInRange.{multipliers_fit}
 use Rattle.ta_walk.proofs.PairSystems.{few_of_pair}
 use Rattle.ta_walk.proofs.NodesShort.{pairs_short}
 use Rattle.ta_walk.proofs.NodesWritten.{are_pairs}
+use Rattle.ta_cert.specs.declared.line.Line.TheVariants as line
+use Rattle.ta_cert.specs.declared.line.Node.TheVariants as node
 
 shown_of : (a : Automaton) (o : Order) → RefutedPair a o.before o.after o.multipliers → IsShown a (pair_of o) o.multipliers
 shown_of a o r = record { system = r.system; is = r.is; leaf = r.refuted.multipliers.leaf; stays = r.stays }

@@ -2,10 +2,10 @@
 use Rattle.ta_walk.proofs.Common.{◌≡◌, ℕ, ◌≤◌, List, [], ◌∷◌, ◌++◌, refl, sym, subst, append_assoc, Node, Pending, Search, left_at, Cursor, IsOutOfRangeAt}
 use Rattle.ta_walk.proofs.Common.{IsSpent, IsTreeEnd, NodeOf, TreeKept, IsVisited, WholeNode, TreeEnd, IsLaterKeeper, IsNotRefuted, IsWholeEnd, LeadsToBoth}
 use Rattle.ta_walk.proofs.Common.{PartEnds, PartVisited, beginning, behind}
-use Rattle.ta_walk.specs.declared.end.TreeEnd.TheVariants as tree
 use Rattle.ta_walk.proofs.SearchesMoved.{moved_out_of_range, moved_visits, moved_whole}
 use Rattle.ta_walk.proofs.VisitsJoined.{visits_before}
 use Rattle.ta_walk.proofs.EndsBehind.{LeadsTo, end_behind}
+use Rattle.ta_walk.specs.declared.end.TreeEnd.TheVariants as tree
 
 -- the nodes of a refuted part lead to the words behind it
 leads_to : {E : Type 0} (Keeps : List Node → Type 0) (s : Search E) (ws vs : List (Pending E)) (nodes count leaves : ℕ)

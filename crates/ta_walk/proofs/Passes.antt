@@ -3,10 +3,10 @@ use Rattle.ta_walk.proofs.Common.{◌≡◌, ℕ, ◌+◌, ◌*◌, ◌<◌, ◌
 use Rattle.ta_walk.proofs.Common.{IsTreeEnd, IsVisitEnd, IsWholeEnd, HasFewFacts, Node, PartVisited, Pending, Rose, RoseBy, Search, TreeEnd, beginning}
 use Rattle.ta_walk.proofs.Common.{most_begun, node_count, search_of_claim, visit_count, visit_end}
 use Rattle.ta_rest.specs.declared.claim_tree.ClaimTree.{ClaimTree}
-use Rattle.ta_walk.specs.declared.end.TreeEnd.TheVariants as tree
 use Rattle.ta_walk.proofs.ClaimsMade.{facts_few}
 use Rattle.ta_walk.proofs.NodesCounted.{counted_once, counted_visit, rose_any, rose_first, rose_twice}
 use Rattle.ta_walk.proofs.PartsMerged.{whole_visited}
+use Rattle.ta_walk.specs.declared.end.TreeEnd.TheVariants as tree
 
 -- how a count rose before a pass: not at all before the hasty one, and by the nodes of the hasty one before the patient one
 abbrev pub RoseBefore : Bool → ℕ → ℕ → ℕ → Type 0

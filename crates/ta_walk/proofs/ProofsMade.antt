@@ -9,22 +9,18 @@
 -- visited refute what has been left out. When no word is left, they refute all, in the order in which the judge reads.
 -- Words have at most as many bounds as nodes have been visited, so a budget below 2 ^ 32 keeps each number of a node in
 -- its range and each line short; and the walk ends, since each node takes one from the budget.
-use Rattle.ta_automaton.specs.Narrow.{IsNarrow}
-use Rattle.ta_walk.proofs.Common.{ℕ, ◌+◌, ◌≤◌, List, [], ◌∷◌, ◌++◌, length, arith, sym, AllByRecursion, Node, IsNode, leaf_of, NodeAt, Visits, IsProof}
-use Rattle.ta_walk.proofs.Common.{RefutedClaimsHold, Automaton, TreeIs, Pattern, Pending, Search, parts, IsJudged, claim_legal, claim_small, search_for, Claim}
-use Rattle.ta_walk.proofs.Common.{pattern_within, PatternOver, subst}
-use Rattle.ta_words.specs.declared.element.Element.{Element}
-use Rattle.ta_cert.specs.declared.line.Node.TheVariants as node
-use Rattle.ta_encode.proofs.Preorders.{in_order, weaker_proof}
+use Rattle.ta_walk.proofs.Common.{IsNarrow, ℕ, ◌+◌, ◌≤◌, List, [], ◌∷◌, ◌++◌, length, arith, sym, AllByRecursion, Node, IsNode, leaf_of, NodeAt, Visits}
+use Rattle.ta_walk.proofs.Common.{IsProof, RefutedClaimsHold, Automaton, TreeIs, Pattern, Pending, Search, parts, IsJudged, claim_legal, claim_small}
+use Rattle.ta_walk.proofs.Common.{search_for, Claim, pattern_within, PatternOver, subst, Element, in_order, weaker_proof, IsLeaf, RefutedInOrder}
 use Rattle.ta_rest.proofs.ClaimsShown.{proofs_show}
 use Rattle.ta_walk.proofs.ClaimsMade.{claim_asks}
 use Rattle.ta_walk.proofs.WordsVisited.{Waits, starts_wait, next_wait}
 use Rattle.ta_walk.proofs.NodesWritten.{node_written}
 use Rattle.ta_walk.proofs.SplitsFit.{split_within}
 use Rattle.ta_walk.proofs.NodesShort.{nodes_few, nodes_short}
-use Rattle.ta_encode.specs.Refutes.{IsLeaf}
-use Rattle.ta_encode.specs.InPreorder.{MayStand, RefutedInOrder}
+use Rattle.ta_encode.specs.InPreorder.{MayStand}
 use Rattle.ta_walk.proofs.Nodes.{few_variables}
+use Rattle.ta_cert.specs.declared.line.Node.TheVariants as node
 
 may_stand : {E : Type 0} (s : Search E) (w : Pending E) (n : Node) → NodeAt s w n → MayStand s (IsJudged s) w n
 may_stand s w (node.Leaf ts) h = record { leaf = leaf_of s w h.refuted.system ts h.refuted.is h.refuted.holds.multipliers.leaf; in_range = h.in_range }

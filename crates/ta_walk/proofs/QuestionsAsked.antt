@@ -1,18 +1,10 @@
 -- what a vertex's question asks at a node
-use Rattle.std.proofs.Common.{◌≡◌, ℕ, List, Bool, true, cond, Some, None, ap}
+use Rattle.ta_walk.proofs.Common.{◌≡◌, ℕ, List, Bool, true, Some, None, ap, is_some, Automaton, Pattern, MayAsk, Fact, Question, OfGuard, OfOrder, OfStuck}
+use Rattle.ta_walk.proofs.Common.{is_open, answers, Maker, answers_if_open, asking_node, candidate_of, exists_as, moment_search, exists_same}
+use Rattle.std.proofs.Common.{cond}
 use Rattle.std.proofs.lemmas.Bool.{and_from}
-use Rattle.std.specs.Option.{is_some}
-use Rattle.ta_automaton.specs.declared.automaton.Automaton.{Automaton}
-use Rattle.ta_automaton.specs.declared.pattern.Pattern.{Pattern}
-use Rattle.ta_encode.specs.Search.{MayAsk}
-use Rattle.ta_moments.specs.declared.fact.Fact.{Fact}
-use Rattle.ta_moments.specs.declared.fact.Question.{Question}
-use Rattle.ta_moments.specs.declared.fact.Question.TheVariants.{OfGuard, OfOrder, OfStuck}
-use Rattle.ta_moments.specs.Facts.{is_open}
 use Rattle.ta_moments.specs.Moments.{Known, known}
-use Rattle.ta_moments.specs.Refutes.{Asking, Exists, answers}
-use Rattle.ta_moments.specs.Searched.{Maker, answers_if_open, asking_node, candidate_of, exists_as, moment_search}
-use Rattle.ta_moments.proofs.Searching.{exists_same}
+use Rattle.ta_moments.specs.Refutes.{Asking, Exists}
 
 answered : (a : Automaton) (p : Pattern) (asking : Asking) (k : Known) (past : List Fact) (q : Question)
     → is_open past q ≡ true → Exists a p asking k q → is_some (answers_if_open a p asking k past (Some q)) ≡ true

@@ -1,20 +1,17 @@
 -- values that meet a node's rows hold at the rows of its search, and the other way round
-use Rattle.ta_moments.proofs.Common.{◌≡◌, ℕ, zero, suc, ◌+◌, ℤ, pos, ◌+ℤ◌, ◌*ℤ◌, ◌≤ℤ◌, ◌&&◌, Bool, true, false, false≢true, and_parts, List, [], ◌∷◌, ◌++◌}
+use Rattle.ta_walk.proofs.Common.{and_parts, list_all, range_with_len, LinearRow, number, fits, if_fits, is_known_natural, known_value, natural_values}
+use Rattle.ta_walk.proofs.Common.{with_product, with_products, row_of_form, length-map}
+use Rattle.ta_moments.proofs.Common.{◌≡◌, ℕ, zero, suc, ◌+◌, ℤ, pos, ◌+ℤ◌, ◌*ℤ◌, ◌≤ℤ◌, ◌&&◌, Bool, true, false, false≢true, List, [], ◌∷◌, ◌++◌}
 use Rattle.ta_moments.proofs.Common.{map, length, get_or, Option, Some, None, cond, arith, ints, negsuc, refl, sym, ap, ◌∙◌, same_Some, range_sum-same}
 use Rattle.ta_moments.proofs.Common.{AllByRecursion, AllHold, bound_row, row_value, Bound, UnknownForm, form_of_row}
 unfoldable use Rattle.ta_base.proofs.Sums.{range_sum}
 unfoldable use Rattle.ta_base.specs.Sums.{total}
-use Rattle.std.specs.List.{list_all, range_with_len}
 use Rattle.ta_base.proofs.Lists.{range_more}
 use Rattle.ta_base.proofs.Ranges.{at_number}
 use Rattle.ta_base.proofs.Totals.{total-append}
-use Rattle.ta_encode.specs.System.{LinearRow}
 use Rattle.ta_moments.proofs.Values.{value_is, valued}
-use Rattle.ta_moments.proofs.Worth.{number, worth-row}
-use Rattle.ta_moments.specs.Questions.{fits, if_fits, is_known_natural, known_value, natural_values, with_product, with_products}
-use Rattle.ta_moments.specs.Searched.{row_of_form}
+use Rattle.ta_moments.proofs.Worth.{worth-row}
 use Rattle.ta_moments.specs.Whole.{form_value}
-use Rattle.std.proofs.lemmas.List.{length-map}
 
 -- ---- rows as forms
 row_valued : (vs : List ℕ) (row : LinearRow) → row_value vs row ≡ form_value vs (form_of_row row)

@@ -1,7 +1,6 @@
 -- a whole node has one run
+use Rattle.ta_walk.proofs.Common.{node_of, MomentRunOf}
 use Rattle.ta_moments.proofs.Common.{◌≡◌, ℕ, List, [], ◌∷◌, map, pos, ap, ◌∙◌, refl, sym, subst}
-use Rattle.ta_moment_tree.specs.Makers.{node_of}
-use Rattle.ta_witness.specs.MomentRuns.{MomentRunOf}
 use Rattle.ta_witness.proofs.MomentOnce.{one_run}
 use Rattle.ta_walk.specs.Laws.{FoundNodesHaveOneRun}
 

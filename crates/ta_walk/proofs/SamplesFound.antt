@@ -4,8 +4,7 @@ use Rattle.ta_walk.proofs.Common.{sym, ap, ◌∙◌, subst, arith, slice_get, I
 use Rattle.ta_walk.proofs.Common.{Automaton, SystemAt, HasStart, sample_meanings, sample_rows, sample_search, sampled, Pending, SolvesAt, bounded_rows, Bound}
 use Rattle.ta_walk.proofs.Common.{bound_row, condition_rows, opposite, processes_row, rows_count, none_starts, sample_few, samples_start, condition_few}
 use Rattle.ta_walk.proofs.Common.{IsJudged, Fraction, SampleEnd, Ending, IsVisitEnding, IsSampleEnd, SampleAt, SampleEndsAreDetermined, SampleFound}
-use Rattle.ta_walk.proofs.Common.{SampleRefuted, SamplesAreReal, ScaledSolve, IsScaled, inl, inr, ◌⊎◌, AreNumbers, IsWholeNumber, WholeAt, each_take}
-use Rattle.ta_words.specs.declared.element.Element.{Element}
+use Rattle.ta_walk.proofs.Common.{SampleRefuted, SamplesAreReal, ScaledSolve, IsScaled, inl, inr, ◌⊎◌, AreNumbers, IsWholeNumber, WholeAt, each_take, Element}
 use Rattle.ta_encode.proofs.Moments.{AllHold-append, AllHold-left}
 use Rattle.ta_walk.specs.declared.end.SampleEnd.TheVariants.{Sample, Empty, Spent, Overflow}
 use Rattle.ta_walk.specs.Ends.Ending.{Whole, Solved, Stopped, Left}

@@ -1,22 +1,15 @@
 -- where nothing is asked at numbers over a denominator, nothing is asked at these numbers: forms of vectors have no constants
+use Rattle.ta_walk.proofs.Common.{zero-*ℤ, moving_rules, known_at, find, list_all, list_any, option_map, option_or, each_at, Fact, Question, OfGuard, OfOrder}
+use Rattle.ta_walk.proofs.Common.{OfStuck, is_open, Values, counts_positive, fails_at_end, first_order, if_fits, is_at_most, is_guard_open, is_known_natural}
+use Rattle.ta_walk.proofs.Common.{is_order_open, known_value, next_question, order_before, order_to_ask, rule_to_ask, with_products, whole_values, length}
 use Rattle.ta_moments.proofs.Common.{◌≡◌, ℕ, ℤ, pos, ◌*ℤ◌, ◌&&◌, Bool, true, false, not, cond, List, [], ◌∷◌, slice_get, Option, Some, None, arith, ints}
-use Rattle.ta_moments.proofs.Common.{refl, sym, ap, ◌∙◌, zero-*ℤ, AllByRecursion, range_with_len, Automaton, Pattern, UnknownForm}
+use Rattle.ta_moments.proofs.Common.{refl, sym, ap, ◌∙◌, AllByRecursion, range_with_len, Automaton, Pattern, UnknownForm}
 use Rattle.ta_moments.proofs.Common.{minus_form, Vector, Moment, Point, Pair}
-use Rattle.ta_moments.proofs.Common.{early, late, end_vector, moving_rules, known_at, Node, of_events}
+use Rattle.ta_moments.proofs.Common.{early, late, end_vector, Node, of_events}
 use Rattle.std.proofs.Math.Path.{fun_ext}
-use Rattle.std.specs.List.{find, list_all, list_any}
-use Rattle.std.specs.Option.{option_map, option_or}
-use Rattle.ta_base.proofs.Each.{each_at}
-use Rattle.ta_moments.specs.declared.fact.Fact.{Fact}
-use Rattle.ta_moments.specs.declared.fact.Question.{Question}
-use Rattle.ta_moments.specs.declared.fact.Question.TheVariants.{OfGuard, OfOrder, OfStuck}
-use Rattle.ta_moments.specs.Facts.{is_open}
-use Rattle.ta_moments.specs.Questions.{GuardAtEnd, RuleAtEnd, Values, are_settled, counts_positive, fails_at_end, first_order, guard_to_ask, guards_at_end}
-use Rattle.ta_moments.specs.Questions.{if_fits, is_at_most, is_guard_open, is_known_natural, is_order_open, is_same_step, is_settled, known_value}
-use Rattle.ta_moments.specs.Questions.{next_question, order_before, order_to_ask, rule_to_ask, with_products}
-use Rattle.ta_moment_tree.specs.Makers.{whole_values}
+use Rattle.ta_moments.specs.Questions.{GuardAtEnd, RuleAtEnd, are_settled, guard_to_ask, guards_at_end}
+use Rattle.ta_moments.specs.Questions.{is_same_step, is_settled}
 use Rattle.ta_walk.proofs.FormsStay.{AreDifferences, MomentDiffers, end_one, known_differs}
-use Rattle.std.specs.Prelude.{length}
 
 -- ---- what is found
 find_fewer : {X : Type 0} (test more : X → Bool) (xs : List X) → find test xs ≡ None → find (λ x. test x && more x) xs ≡ None

@@ -1,20 +1,13 @@
 -- the values of a vertex times their denominator meet its rows too, where no row has a positive constant
+use Rattle.ta_walk.proofs.Common.{zero-*ℤ, IsSomeAnd, *ℤ_comm, cancel_positive, ge-zero_of_mul, mul-ge-zero, Pairwise, IsNormal-le, IsNormal, AreRowsOf}
+use Rattle.ta_walk.proofs.Common.{row_of_form, IsNumberOver, Fraction}
 use Rattle.ta_moments.proofs.Common.{◌≡◌, ℕ, zero, suc, ◌+◌, ◌<◌, ℤ, pos, ◌+ℤ◌, ◌-ℤ◌, ◌*ℤ◌, ◌≤ℤ◌, ◌<ℤ◌, List, [], ◌∷◌, ◌++◌, map, length, get_or, slice_get}
 use Rattle.ta_moments.proofs.Common.{arith, ints, sym, ap, ◌∙◌, All, AllByRecursion, distributes, distributes_right, minus_times, one_times}
-use Rattle.ta_moments.proofs.Common.{times_assoc, zero-*ℤ, *ℤ-zero, terms_value, Row, RowHolds, UnknownForm}
-use Rattle.std.specs.Prelude.{IsSomeAnd}
-use Rattle.std.proofs.Math.IntN.{*ℤ_comm}
-use Rattle.ta_base.proofs.Integers.{cancel_positive, ge-zero_of_mul, mul-ge-zero, mul-le-zero_turned, mul_left_comm}
-use Rattle.ta_base.specs.Lists.{Pairwise}
-use Rattle.ta_linear.proofs.TermLemmas.{IsNormal-le}
+use Rattle.ta_moments.proofs.Common.{times_assoc, *ℤ-zero, terms_value, Row, RowHolds, UnknownForm}
+use Rattle.ta_base.proofs.Integers.{mul-le-zero_turned, mul_left_comm}
 use Rattle.ta_linear.specs.Rows.{AllBelow}
-use Rattle.ta_linear.specs.Terms.{IsNormal}
 use Rattle.ta_dense.specs.Slack.{slack_at}
-use Rattle.ta_encode.specs.Code.{AreRowsOf}
-use Rattle.ta_moments.specs.Searched.{row_of_form}
-use Rattle.ta_moments.specs.Vertices.{IsNumberOver}
 use Rattle.ta_simplex.specs.Vertex.{parts_of}
-use Rattle.ta_simplex.specs.declared.fraction.Fraction.{Fraction}
 
 -- ---- fractions
 -- a fraction is x over q and v over d

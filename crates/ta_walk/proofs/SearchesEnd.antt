@@ -4,21 +4,20 @@ use Rattle.ta_walk.proofs.Common.{map, slice_get, arith, refl, sym, subst, ◌�
 use Rattle.ta_walk.proofs.Common.{floor_high, floor_low, System, In, Node, Bound, Low, High, SystemAt, Pending, Search, Comes, bound_at, bounded, longer, parts}
 use Rattle.ta_walk.proofs.Common.{comes_first, Fraction, end_exists, HasSystems, HasEnding, SearchesHaveEnds, Whole, Solved, Stopped, Left, IsUnbounded}
 use Rattle.ta_walk.proofs.Common.{IsVisited, AreNumbers, IsAbove, IsWhole, NodeAt, SplitsAt, Visits, Answers, answered, asked, OpenVertex, IsSettled, parts_of}
-use Rattle.ta_walk.proofs.Common.{Option, Some, None, false≢true}
-use Rattle.std.specs.Option.{is_some}
-use Rattle.ta_cert.specs.declared.line.Node.TheVariants as node
+use Rattle.ta_walk.proofs.Common.{Option, Some, None, false≢true, is_some}
 use Rattle.ta_encode.proofs.FramesParts.{bounds_more}
 use Rattle.ta_encode.specs.declared.meaning.Side.{Side}
 use Rattle.ta_encode.specs.Lines.{BoundWithin, BoundsWithin}
 use Rattle.ta_simplex.specs.Answers.{HasEnd, RunOverflows}
 use Rattle.ta_simplex.specs.Ends.{IsEnd as IsSystemEnd}
 use Rattle.ta_simplex.specs.declared.End.{End}
-use Rattle.ta_simplex.specs.declared.End.TheVariants as end
 use Rattle.ta_simplex.proofs.RunEndings.{run_ends}
-use Rattle.ta_walk.specs.declared.end.PlaceKind.TheVariants as kind
 use Rattle.ta_walk.proofs.SplitsFit.{split_within, split_floor}
 use Rattle.ta_walk.proofs.Vertices.{rest_above, rest_whole}
 use Rattle.ta_walk.proofs.WalkSoFar.{visits_more}
+use Rattle.ta_cert.specs.declared.line.Node.TheVariants as node
+use Rattle.ta_simplex.specs.declared.End.TheVariants as end
+use Rattle.ta_walk.specs.declared.end.PlaceKind.TheVariants as kind
 
 -- ---- the values of a vertex are all whole, or there is a first one that isn't
 whole_or_above : (f : Fraction) → IsWhole f ⊎ ((floor : ℤ) × IsAbove floor f)

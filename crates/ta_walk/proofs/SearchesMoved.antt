@@ -2,8 +2,8 @@
 use Rattle.ta_walk.proofs.Common.{◌≡◌, ◌⊎◌, inl, inr, ℤ, List, [], ◌∷◌, ◌++◌, refl, subst, System, Node, Pending, Search, parts, OverflowsAt, IsRefuted}
 use Rattle.ta_walk.proofs.Common.{IsVertex, slack_tableau, PlaceKind, IsOutOfRangeAt, NodeAt, OfSystem, Visits, WholeAt, beginning, Fraction, IsSettled}
 use Rattle.ta_walk.proofs.Common.{AreNumbers, IsScaled}
-use Rattle.ta_cert.specs.declared.line.Node.TheVariants as node
 use Rattle.ta_encode.proofs.Asking.{may_moved}
+use Rattle.ta_cert.specs.declared.line.Node.TheVariants as node
 use Rattle.ta_walk.specs.declared.end.PlaceKind.TheVariants as kind
 
 moved_system : {E : Type 0} (s : Search E) (us vs : List (Pending E)) (w : Pending E) (fact : System → Type 0) → OfSystem (beginning s us) w fact

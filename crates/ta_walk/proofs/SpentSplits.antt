@@ -3,15 +3,13 @@
 -- Without splits a visit meets no word twice: the children of a word are distinct, and what goes on from one child goes on from no
 -- other (`SubtreesApart`). A legal word has at most 30 elements, so there are finitely many, and a visit without splits ends within
 -- their number.
-use Rattle.ta_automaton.specs.Narrow.{IsNarrow}
-use Rattle.ta_walk.proofs.Common.{◌≡◌, inl, inr, ℕ, zero, suc, ◌+◌, ◌<◌, ◌≤◌, ◌^◌, List, [], ◌∷◌, ◌++◌, length, map, slice_get, Some, arith, refl, sym, ap, ◌∙◌}
-use Rattle.ta_walk.proofs.Common.{subst, length-map, AllByRecursion, each_from_in, each_in, no_more, In-left, In-map, In-right, in_map, In-numbers, in_numbers}
-use Rattle.ta_walk.proofs.Common.{Automaton, File, Pattern, Distinct, In, range_with_len, Node, Element, LegalUnder, children, all_starts, empty_word}
-use Rattle.ta_walk.proofs.Common.{pattern_search, Comes, Pending, Search, parts, LinearRow, comes_legal, IsSpent, IsVisited, HasAtMost, HasSplit}
-use Rattle.ta_walk.proofs.Common.{SpentNeedsSplits, WasSplit, Visits, pattern_within, ℤ, Option}
-use Rattle.ta_words.specs.Words.{is_complete}
+use Rattle.ta_walk.proofs.Common.{IsNarrow, ◌≡◌, inl, inr, ℕ, zero, suc, ◌+◌, ◌<◌, ◌≤◌, ◌^◌, List, [], ◌∷◌, ◌++◌, length, map, slice_get, Some, arith, refl}
+use Rattle.ta_walk.proofs.Common.{sym, ap, ◌∙◌, subst, length-map, AllByRecursion, each_from_in, each_in, no_more, In-left, In-map, In-right, in_map}
+use Rattle.ta_walk.proofs.Common.{In-numbers, in_numbers, Automaton, File, Pattern, Distinct, In, range_with_len, Node, Element, LegalUnder, children}
+use Rattle.ta_walk.proofs.Common.{all_starts, empty_word, pattern_search, Comes, Pending, Search, parts, LinearRow, comes_legal, IsSpent, IsVisited, HasAtMost}
+use Rattle.ta_walk.proofs.Common.{HasSplit, SpentNeedsSplits, WasSplit, Visits, pattern_within, ℤ, Option, is_complete, legal_length}
 use Rattle.ta_encode.proofs.Asking.{answers_moved, distinct_answers}
-use Rattle.ta_words.proofs.Counts.{legal_length, legal_under}
+use Rattle.ta_words.proofs.Counts.{legal_under}
 use Rattle.ta_walk.proofs.ChildrenOnce.{children_once}
 use Rattle.ta_walk.proofs.DeterminedVisits.{word_once}
 use Rattle.ta_walk.proofs.SubtreesApart.{AllApart, Branches, IsPlain, UnderSome, mark, marks, not_again, parts_apart, split_or_plain, under_before, under_here}

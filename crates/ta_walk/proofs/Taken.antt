@@ -1,24 +1,17 @@
 -- the whole values that are taken in place of a vertex's are natural and solve its system
-use Rattle.ta_moments.proofs.Common.{◌≡◌, ℕ, ◌<◌, ℤ, pos, ◌*ℤ◌, ◌≤ℤ◌, Bool, true, false, not, and_parts, List, [], ◌∷◌, map, length, Option, Some, None, cond}
+use Rattle.ta_walk.proofs.Common.{and_parts, known_at, IsSomeAnd, suc, list_all, is_some, *ℤ_comm, ge-zero_of_mul, mul-ge-zero, Pairwise, Pending, Fraction}
+use Rattle.ta_walk.proofs.Common.{ScaledSolve, VertexAt, Fact, Values, is_known_natural, known_value, next_question, IsNumberOver, PositiveDenominators}
+use Rattle.ta_walk.proofs.Common.{common_denominator, may_take, node_of, scaled_in, whole_values}
+use Rattle.ta_moments.proofs.Common.{◌≡◌, ℕ, ◌<◌, ℤ, pos, ◌*ℤ◌, ◌≤ℤ◌, Bool, true, false, not, List, [], ◌∷◌, map, length, Option, Some, None, cond}
 use Rattle.ta_moments.proofs.Common.{arith, ints, refl, sym, ap, ◌∙◌, subst, same_Some, slice_get, length-map, AllByRecursion, Automaton, Pattern, Asking}
-use Rattle.ta_moments.proofs.Common.{Node, node_rows, known_at}
-use Rattle.std.specs.Prelude.{IsSomeAnd, suc}
-use Rattle.std.specs.List.{list_all}
-use Rattle.std.specs.Option.{is_some}
-use Rattle.std.proofs.Math.IntN.{*ℤ_comm}
-use Rattle.ta_base.proofs.Integers.{ge-zero_of_mul, mul-ge-zero, natural, pos_natural}
+use Rattle.ta_moments.proofs.Common.{Node, node_rows}
+use Rattle.ta_base.proofs.Integers.{natural, pos_natural}
 use Rattle.ta_base.proofs.Pairwise.{paired_length}
-use Rattle.ta_base.specs.Lists.{Pairwise}
-use Rattle.ta_encode.specs.Search.{Pending}
 use Rattle.ta_simplex.specs.Vertex.{parts_of}
-use Rattle.ta_simplex.specs.declared.fraction.Fraction.{Fraction}
-use Rattle.ta_walk.specs.Ends.{ScaledSolve}
-use Rattle.ta_walk.specs.Visit.{VertexAt}
-use Rattle.ta_moments.specs.declared.fact.Fact.{Fact}
-use Rattle.ta_moments.specs.Questions.{Scaled, Values, is_known_natural, known_value, next_question}
-use Rattle.ta_moments.specs.Vertices.{IsNumberOver, PositiveDenominators, common_denominator, values_of}
+use Rattle.ta_moments.specs.Questions.{Scaled}
+use Rattle.ta_moments.specs.Vertices.{values_of}
 use Rattle.ta_moments.proofs.Fractions.{values_fractions}
-use Rattle.ta_moment_tree.specs.Makers.{may_take, moments_of, node_of, scaled_in, whole_values}
+use Rattle.ta_moment_tree.specs.Makers.{moments_of}
 use Rattle.ta_walk.proofs.RowsMet.{known_met, rows_hold}
 
 -- each denominator is positive

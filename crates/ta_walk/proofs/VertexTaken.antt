@@ -1,17 +1,13 @@
 -- what is taken at a vertex of a node's system, and what was read of its cursor
 use Rattle.ta_walk.proofs.Common.{◌≡◌, ℕ, ℤ, List, [], Option, Some, inl, inr, reverse, subst, sym, Search, Pending, Cursor, here, Node, Fraction, VertexAt}
-use Rattle.ta_walk.proofs.Common.{AreNumbers, IsSettled, NodeAt, SplitVertex, SplitsAt, WholeAt, parts_of}
-use Rattle.std.specs.Prelude.{Result, Ok, Err, IfOk, None}
+use Rattle.ta_walk.proofs.Common.{AreNumbers, IsSettled, NodeAt, SplitVertex, SplitsAt, WholeAt, parts_of, Result, Ok, Err, IfOk, None, node_at, MayAsk, Bound}
 use Rattle.ta_encode.specs.Asking.{ask_node}
-use Rattle.ta_encode.specs.Cursors.{node_at}
-use Rattle.ta_encode.specs.Search.{MayAsk}
 use Rattle.ta_encode.specs.declared.ask.Ask.{Ask}
-use Rattle.ta_encode.specs.declared.ask.Ask.TheVariants as ask
-use Rattle.ta_encode.specs.declared.meaning.Bound.{Bound}
 use Rattle.ta_walk.specs.Inside.Solving.{OnInner}
 use Rattle.ta_walk.specs.Visit.{AsksAt}
 use Rattle.ta_walk.specs.declared.node.Solved.{Solved}
 use Rattle.ta_walk.specs.declared.node.Solved.TheVariants.{Inner, Whole, OutOfRange}
+use Rattle.ta_encode.specs.declared.ask.Ask.TheVariants as ask
 
 -- a fact that holds anyway
 pub on_inner : {F : Type 0} (solved : Solved) → F → OnInner solved F

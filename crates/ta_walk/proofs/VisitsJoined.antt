@@ -1,8 +1,8 @@
 -- visits of lists of words that are put together or cut
 use Rattle.ta_walk.proofs.Common.{cases_order, ◌≡◌, inl, inr, ℕ, zero, suc, ◌+◌, ◌<◌, ◌≤◌, List, [], ◌∷◌, ◌++◌, length, length-append, arith, refl, sym, ap}
 use Rattle.ta_walk.proofs.Common.{◌∙◌, subst, append_assoc, Node, Pending, Search, parts, Visits, IsVisited, leaf_count, beginning}
-use Rattle.ta_cert.specs.declared.line.Node.TheVariants as node
 use Rattle.ta_walk.proofs.SearchesMoved.{moved_visits}
+use Rattle.ta_cert.specs.declared.line.Node.TheVariants as node
 
 -- a visit goes the same way with further words behind those with which it begins
 pub visits_before : {E : Type 0} (s : Search E) (ws : List (Pending E)) (ns : List Node) (rest more : List (Pending E)) → Visits s ws ns rest

@@ -1,18 +1,16 @@
 -- The walks of patterns for each claim, and the searches for samples, end.
-use Rattle.ta_automaton.specs.Narrow.{IsNarrow}
-use Rattle.ta_walk.proofs.Common.{◌≡◌, ℕ, ◌^◌, ◌≤◌, ℤ, List, length, reverse, slice_get, take, Some, arith, refl, sym, ap, ◌∙◌, reverse-reverse, Automaton}
-use Rattle.ta_walk.proofs.Common.{File, Pattern, sample_search, Pending, Search, few_unknowns, claim_legal, search_for, Claim, SampleEnd, WalkEnd, HasSystems}
-use Rattle.ta_walk.proofs.Common.{WalksHaveEnds, WordsHaveSystems, Ending, IsWalkEnd, IsVisitEnding, Left, SolutionAt, Solved, Stopped, Whole, IsSampleEnd}
-use Rattle.ta_walk.proofs.Common.{SampleAt, WholeAt, pattern_within}
-use Rattle.ta_words.specs.declared.element.Element.{Element}
+use Rattle.ta_walk.proofs.Common.{IsNarrow, ◌≡◌, ℕ, ◌^◌, ◌≤◌, ℤ, List, length, reverse, slice_get, take, Some, arith, refl, sym, ap, ◌∙◌, reverse-reverse}
+use Rattle.ta_walk.proofs.Common.{Automaton, File, Pattern, sample_search, Pending, Search, few_unknowns, claim_legal, search_for, Claim, SampleEnd, WalkEnd}
+use Rattle.ta_walk.proofs.Common.{HasSystems, WalksHaveEnds, WordsHaveSystems, Ending, IsWalkEnd, IsVisitEnding, Left, SolutionAt, Solved, Stopped, Whole}
+use Rattle.ta_walk.proofs.Common.{IsSampleEnd, SampleAt, WholeAt, pattern_within, Element}
 use Rattle.ta_encode.specs.Unknowns.{meanings}
 use Rattle.ta_encode.proofs.SystemsExist.{sample_system}
 use Rattle.ta_rest.proofs.ClaimWords.{claim_system, claim_grows}
-use Rattle.ta_walk.specs.declared.end.SampleEnd.TheVariants as sampled
-use Rattle.ta_walk.specs.declared.end.WalkEnd.TheVariants as walked
 use Rattle.ta_walk.proofs.SearchesEnd.{searches_end}
 use Rattle.ta_walk.proofs.WordsVisited.{claim_unbounded}
 use Rattle.ta_walk.proofs.DeterminedEnds.{node_with}
+use Rattle.ta_walk.specs.declared.end.SampleEnd.TheVariants as sampled
+use Rattle.ta_walk.specs.declared.end.WalkEnd.TheVariants as walked
 
 pattern_has : (claim : Claim) (file : File) (number : ℕ) (p : Pattern) → slice_get file.patterns number ≡ Some p → IsNarrow file.automaton
     → (pairs : List (ℕ × ℕ)) → HasSystems (search_for claim file.automaton p pairs)

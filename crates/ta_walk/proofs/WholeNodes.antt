@@ -1,27 +1,16 @@
 -- a whole node that a visit finds: its values are natural, meet its rows, and leave no question
+use Rattle.ta_walk.proofs.Common.{known_at, list_all, is_some, option_map, Pairwise, Comes, MayAsk, Pending, Fraction, AreNumbers, IsScaled, IsSettled, WholeAt}
+use Rattle.ta_walk.proofs.Common.{Fact, Question, OfGuard, OfOrder, OfStuck, is_open, QuestionsMayBeAsked, fits, next_question, answers, answers_if_open}
+use Rattle.ta_walk.proofs.Common.{asking_node, candidate_of, exists_as, IsNumberOver, NoQuestionLeavesNothing, exists_same, moment_maker, node_of, whole_values}
 use Rattle.ta_moments.proofs.Common.{◌≡◌, ◌⊎◌, inl, inr, ℕ, ℤ, pos, ◌&&◌, Bool, true, false, and_from, List, [], ◌∷◌, map, Option, Some, None, cond, refl}
-use Rattle.ta_moments.proofs.Common.{sym, ap, ◌∙◌, subst, In, Automaton, Pattern, Asking, known_at, Exists, candidates}
-use Rattle.std.specs.List.{list_all}
-use Rattle.std.specs.Option.{is_some, option_map}
+use Rattle.ta_moments.proofs.Common.{sym, ap, ◌∙◌, subst, In, Automaton, Pattern, Asking, Exists, candidates}
 use Rattle.ta_base.proofs.Integers.{one_times}
-use Rattle.ta_base.specs.Lists.{Pairwise}
-use Rattle.ta_encode.specs.Search.{Comes, MayAsk, Pending}
 use Rattle.ta_simplex.specs.Vertex.{parts_of}
-use Rattle.ta_simplex.specs.declared.fraction.Fraction.{Fraction}
-use Rattle.ta_walk.specs.Visit.{AreNumbers, IsScaled, IsSettled, WholeAt}
 use Rattle.ta_walk.proofs.WordsSolved.{whole_solves}
-use Rattle.ta_moments.specs.declared.fact.Fact.{Fact}
-use Rattle.ta_moments.specs.declared.fact.Question.{Question}
-use Rattle.ta_moments.specs.declared.fact.Question.TheVariants.{OfGuard, OfOrder, OfStuck}
-use Rattle.ta_moments.specs.Facts.{is_open}
-use Rattle.ta_moments.specs.Questions.{QuestionsMayBeAsked, fits, next_question}
-use Rattle.ta_moments.specs.Refutes.{answers}
-use Rattle.ta_moments.specs.Searched.{answers_if_open, asking_node, candidate_of, exists_as}
-use Rattle.ta_moments.specs.Vertices.{IsNumberOver, values_of}
-use Rattle.ta_moments.specs.Whole.{NoQuestionLeavesNothing, WholeNode}
+use Rattle.ta_moments.specs.Vertices.{values_of}
+use Rattle.ta_moments.specs.Whole.{WholeNode}
 use Rattle.ta_moments.proofs.Fractions.{whole_values as whole_are}
-use Rattle.ta_moments.proofs.Searching.{exists_same}
-use Rattle.ta_moment_tree.specs.Makers.{moment_maker, moments_of, node_of, whole_values}
+use Rattle.ta_moment_tree.specs.Makers.{moments_of}
 use Rattle.ta_walk.proofs.Answered.{comes_answered}
 use Rattle.ta_walk.proofs.RowsMet.{rows_met}
 use Rattle.ta_walk.proofs.Taken.{all_positive, scaled_solve, taken}

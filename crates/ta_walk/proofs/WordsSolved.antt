@@ -3,11 +3,9 @@ use Rattle.ta_walk.proofs.Common.{◌≡◌, ◌⊎◌, inl, inr, ℕ, zero, suc
 use Rattle.ta_walk.proofs.Common.{refl, sym, ap, ◌∙◌, subst, IsSomeAnd, slice_index, *ℤ_comm, ge-zero_of_mul, Element, LegalUnder, is_complete, SolvesWord}
 use Rattle.ta_walk.proofs.Common.{solution_of, unbounded, Fraction, whole_vertex_solves, pattern_search, comes_legal, IsWholeNumber, AreNumbers}
 use Rattle.ta_walk.proofs.Common.{FoundWordsAreSolved, WholeNodesSolve, ScaledSolve, AreSolution, IsScaled, VertexAt, Pending, Search, None, Some, parts_of}
-use Rattle.ta_walk.proofs.Common.{unsigned_abs, children}
-use Rattle.ta_cert.specs.declared.line.Node.TheVariants.{Extend}
+use Rattle.ta_walk.proofs.Common.{unsigned_abs, children, Extend, Safe}
 use Rattle.ta_encode.proofs.Asking.{settled_complete}
 use Rattle.ta_base.proofs.Integers.{abs_natural}
-use Rattle.ta_rest.specs.declared.claim.Claim.TheVariants.{Safe}
 use Rattle.ta_walk.proofs.WordsVisited.{starts_wait, left_wait}
 
 -- natural numbers that are the values

@@ -8,11 +8,8 @@ use Rattle.ta_witness.proofs.Common.{None, slice_get, arith, refl, sym, ap, â—Œâ
 use Rattle.ta_witness.proofs.Common.{each_from_in, reverse_onto, item_at, no_item, Automaton, Pattern, range_with_len, In, InScope, AreRuleCounts, ArrangedOf}
 use Rattle.ta_witness.proofs.Common.{count_at, Element, Event, Rise, Fall, allowed_rules, may_fire, Meaning, Count, Single, meanings, place_coefficient}
 use Rattle.ta_witness.proofs.Common.{sum_of_products, FiresBefore, WordFires, Piece, unknown_value, same_meaning, PieceOf, PiecesOf, EndsPiece, counts_before}
-use Rattle.ta_witness.proofs.Common.{map_same, in_filter, length-range_with_len}
-use Rattle.ta_base.proofs.Totals.{total-within}
+use Rattle.ta_witness.proofs.Common.{map_same, in_filter, length-range_with_len, total-within, arranged_steps, FromCounts, from_counts}
 use Rattle.ta_automaton.specs.Places.{rule_change}
-use Rattle.ta_scope.specs.Legal.{arranged_steps}
-use Rattle.ta_scope.proofs.ArrangedLaws.{FromCounts, from_counts}
 use Rattle.ta_encode.proofs.Forward.{forward_of}
 use Rattle.ta_witness.proofs.Lookups.{newer, count_value, value_for, value_in_list, value_sum, one_found}
 use Rattle.std.proofs.lemmas.Simd.{map-map}

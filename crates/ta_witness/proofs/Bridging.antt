@@ -1,17 +1,11 @@
 -- the lines of the code's stops are those of the pieces to a node's stops
-use Rattle.ta_moments.proofs.Common.{Bool, true, false, ◌≡◌, inl, inr, ℕ, zero, suc, ◌+◌, ◌-◌, ◌<◌, ℤ, pos, List, [], ◌∷◌, ◌++◌, length, map, slice_get, cond}
+use Rattle.ta_witness.proofs.Common.{◌-◌, int_lt, each_append, Counts, LineFits, Piece, piece_lines, pieces_lines, RunLine, ArrangedOf, count_at, AddsStops}
+use Rattle.ta_witness.proofs.Common.{gap, gaps, marked, PiecesTo, firings_to, listed}
+use Rattle.ta_moments.proofs.Common.{Bool, true, false, ◌≡◌, inl, inr, ℕ, zero, suc, ◌+◌, ◌<◌, ℤ, pos, List, [], ◌∷◌, ◌++◌, length, map, slice_get, cond}
 use Rattle.ta_moments.proofs.Common.{arith, ints, sym, ap, ◌∙◌, refl, subst, append_assoc, append-nil, cases_Bool, range_with_len, AllByRecursion, Automaton}
 use Rattle.ta_moments.proofs.Common.{Pattern, is_moving}
-use Rattle.std.specs.Prelude.{int_lt}
-use Rattle.ta_base.proofs.Each.{each_append}
-use Rattle.ta_moments.specs.Chains.{Counts}
-use Rattle.ta_replay.specs.Fits.{LineFits}
-use Rattle.ta_replay.specs.Pieces.{Piece, piece_lines, pieces_lines}
-use Rattle.ta_replay.specs.declared.run.RunLine.{RunLine}
-use Rattle.ta_scope.specs.Arranged.{ArrangedOf, count_at}
 use Rattle.ta_witness.specs.declared.stop.Stop.{Stop as CodeStop}
-use Rattle.ta_witness.specs.Inside.StopLines.{AddsStops, gap, gaps, marked}
-use Rattle.ta_witness.specs.Stops.{PiecesTo, Stop, firings_to, listed}
+use Rattle.ta_witness.specs.Stops.{Stop}
 use Rattle.ta_witness.proofs.Listing.{are_listed, listed_at}
 
 gap_of : (b : Bool) (x y : ℕ) → gap (cond b (pos x) (pos 0)) (cond b (pos y) (pos 0)) ≡ cond b (pos (y - x)) (pos 0)

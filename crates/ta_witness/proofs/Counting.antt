@@ -1,39 +1,29 @@
 -- how many accelerated steps the run of a whole node has
-use Rattle.ta_moments.proofs.Common.{cond, eqb, ◌≡◌, inl, inr, ℕ, suc, ◌+◌, ◌-◌, ◌*◌, ◌≤◌, ℤ, List, [], ◌∷◌, ◌++◌, map, drop, length, slice_get, Some, None}
+use Rattle.ta_witness.proofs.Common.{◌-◌, Asking, Node, Point, Pair, event_vector, moving_rules, known_at, InScope, Chain, Counts, NoneFewer, Rising}
+use Rattle.ta_witness.proofs.Common.{firings_in, counts_of, sum_grows, Piece, piece_lines, pieces_lines, steps_count, StepsWithin, arranged_within, PiecesTo}
+use Rattle.ta_witness.proofs.Common.{event_stop, listed, stops_of, no_counts, node_stops, end_vector, WholeNode, whole_settled, no_firings, HasFewSteps, Run}
+use Rattle.ta_witness.proofs.Common.{RunLine, Step, Mark, ComeAfterEarlier}
+use Rattle.ta_moments.proofs.Common.{cond, eqb, ◌≡◌, inl, inr, ℕ, suc, ◌+◌, ◌*◌, ◌≤◌, ℤ, List, [], ◌∷◌, ◌++◌, map, drop, length, slice_get, Some, None}
 use Rattle.ta_moments.proofs.Common.{arith, ints, sym, ap, ◌∙◌, refl, subst, same_Some, length-map, length-range_with_len, cases_lt, eqb_tells, range_with_len}
-use Rattle.ta_moments.proofs.Common.{In, times-in, Automaton, Pattern, File, Asking, Node, Moment, Point, Pair, early, late, event_vector, is_moving}
-use Rattle.ta_moments.proofs.Common.{moving_rules, known_at}
+use Rattle.ta_moments.proofs.Common.{In, times-in, Automaton, Pattern, File, Moment, early, late, is_moving}
 unfoldable use Rattle.ta_base.specs.Sums.{times_in}
-use Rattle.ta_automaton.specs.Runs.{InScope}
 use Rattle.ta_base.proofs.Lists.{filter_shorter}
-use Rattle.ta_moments.specs.Chains.{Chain, Cost, Counts, NoneFewer, Rising, firings_in, most_steps}
-use Rattle.ta_moments.specs.Nodes.{counts_of}
+use Rattle.ta_moments.specs.Chains.{Cost, most_steps}
 use Rattle.ta_moments.proofs.Pictures.{rising_in}
-use Rattle.ta_moments.proofs.Segments.{firings_between, sum_grows}
+use Rattle.ta_moments.proofs.Segments.{firings_between}
 use Rattle.ta_moments.proofs.Settling.{fewer}
-use Rattle.ta_replay.specs.Pieces.{Piece, piece_lines, pieces_lines, rule_of, steps_count}
-use Rattle.ta_scope.specs.Legal.{StepsWithin}
-use Rattle.ta_scope.proofs.Arranging.{arranged_within}
+use Rattle.ta_replay.specs.Pieces.{rule_of}
 unfoldable use Rattle.ta_witness.specs.Stops.{sorted_stops, with_stop}
-use Rattle.ta_witness.specs.Stops.{PiecesTo, Stop, event_stop, listed, stops_of}
+use Rattle.ta_witness.specs.Stops.{Stop}
 use Rattle.ta_witness.proofs.Listing.{are_listed, listed_moves, one_in}
 use Rattle.ta_witness.proofs.Sorting.{go_or_stay, sorted_has, sorted_rising}
 use Rattle.ta_witness.proofs.Walking.{stop_counts}
 use Rattle.ta_witness.proofs.Positions.{counts_in, in_counts, in_dropped}
 use Rattle.ta_witness.proofs.Showing.{RunIn, Seen, run_in, seen, stops_chain}
 use Rattle.ta_witness.specs.MomentLaws.{MomentRunsAreShort}
-use Rattle.ta_witness.specs.Stops.{no_counts, node_stops}
-use Rattle.ta_moments.proofs.Common.{after_earlier, pattern_within, end_vector, Config}
-use Rattle.ta_moments.specs.Whole.{WholeNode}
+use Rattle.ta_moments.proofs.Common.{after_earlier, pattern_within, Config}
 use Rattle.ta_moments.specs.Nodes.{SettledMoments}
 use Rattle.ta_moments.proofs.Short.{few_moments}
-use Rattle.ta_moments.proofs.Wholes.{whole_settled}
-use Rattle.ta_moments.proofs.Segments.{no_firings}
-use Rattle.ta_replay.specs.Pieces.{HasFewSteps}
-use Rattle.ta_replay.specs.declared.run.Run.{Run}
-use Rattle.ta_replay.specs.declared.run.RunLine.{RunLine}
-use Rattle.ta_replay.specs.declared.run.RunLine.TheVariants.{Step, Mark}
-use Rattle.ta_rest.specs.Rest.{ComeAfterEarlier}
 use Rattle.std.proofs.Math.Nat.{mul-le-mul_right}
 use Rattle.std.proofs.lemmas.List.{length-drop}
 

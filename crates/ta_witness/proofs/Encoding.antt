@@ -1,12 +1,8 @@
 -- what the runs of an encoding's node say
-use Rattle.ta_moments.proofs.Common.{ℕ, ℤ, List, subst, Automaton, File, Asking, Node, of_rest}
-use Rattle.ta_automaton.specs.Runs.{InScope}
-use Rattle.ta_moments.specs.Whole.{WholeNode}
-use Rattle.ta_moment_tree.specs.declared.encoding.MomentEncoding.{MomentEncoding}
-use Rattle.ta_replay.specs.Shows.{Shows}
-use Rattle.ta_replay.specs.declared.run.Run.{Run}
-use Rattle.ta_witness.specs.Given.{EncodesSomeWhole, EncodesWhole, RestOfEncoding, RunOfEncoding, ShortOfEncoding}
-use Rattle.ta_witness.specs.MomentRuns.{WholeOf}
+use Rattle.ta_witness.proofs.Common.{Asking, Node, of_rest, InScope, WholeNode, MomentEncoding, Shows, Run, EncodesSomeWhole, EncodesWhole, RunOfEncoding}
+use Rattle.ta_witness.proofs.Common.{WholeOf}
+use Rattle.ta_moments.proofs.Common.{ℕ, ℤ, List, subst, Automaton, File}
+use Rattle.ta_witness.specs.Given.{RestOfEncoding, ShortOfEncoding}
 use Rattle.ta_witness.proofs.Counting.{runs_short}
 use Rattle.ta_witness.proofs.MomentResting.{runs_rest}
 use Rattle.ta_witness.proofs.Showing.{runs_show}

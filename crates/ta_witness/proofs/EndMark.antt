@@ -1,23 +1,12 @@
 -- at rest, the run of a whole node of a pattern with one event ends with the mark of this event
-use Rattle.ta_moments.proofs.Common.{◌≡◌, inl, inr, ℕ, ◌+◌, ◌-◌, ℤ, List, [], ◌∷◌, ◌++◌, map, drop, length, Option, arith, ints, sym, ap, ◌∙◌, refl}
+use Rattle.ta_witness.proofs.Common.{◌-◌, moving_rules, end_vector, Node, known_at, of_rest, InScope, WholeNode, Counts, NoneFewer, Rising, firings_in}
+use Rattle.ta_witness.proofs.Common.{counts_of, only_last, sorted_is_chain, Piece, last_lines, piece_lines, pieces_lines, step_line, RunLine, Mark, ComesLast}
+use Rattle.ta_witness.proofs.Common.{ComeAfterEarlier, arranged_within, ArrangedOf, PiecesTo, event_stop, listed, no_counts, node_stops, stops_of}
+use Rattle.ta_moments.proofs.Common.{◌≡◌, inl, inr, ℕ, ◌+◌, ℤ, List, [], ◌∷◌, ◌++◌, map, drop, length, Option, arith, ints, sym, ap, ◌∙◌, refl}
 use Rattle.ta_moments.proofs.Common.{subst, append_assoc, append-nil, range_with_len, In, Automaton, Pattern, after_earlier, pattern_within}
-use Rattle.ta_moments.proofs.Common.{moving_rules, end_vector, Node, known_at, of_rest}
-use Rattle.ta_automaton.specs.Runs.{InScope}
-use Rattle.ta_moments.specs.Whole.{WholeNode}
-use Rattle.ta_moments.specs.Chains.{Counts, NoneFewer, Rising, firings_in}
-use Rattle.ta_moments.specs.Nodes.{counts_of}
-use Rattle.ta_moments.proofs.Resting.{only_last}
-use Rattle.ta_moments.proofs.Segments.{sorted_is_chain}
-use Rattle.ta_replay.specs.Pieces.{Piece, last_lines, piece_lines, pieces_lines, step_line}
-use Rattle.ta_replay.specs.declared.run.RunLine.{RunLine}
-use Rattle.ta_replay.specs.declared.run.RunLine.TheVariants.{Mark}
-use Rattle.ta_rest.specs.Endings.{ComesLast}
-use Rattle.ta_rest.specs.Rest.{ComeAfterEarlier}
 use Rattle.ta_witness.proofs.LastMark.{EndsWithMark, marked_piece}
-use Rattle.ta_scope.proofs.Arranging.{arranged_within}
-use Rattle.ta_scope.specs.Arranged.{ArrangedOf}
 unfoldable use Rattle.ta_witness.specs.Stops.{sorted_stops, with_stop}
-use Rattle.ta_witness.specs.Stops.{PiecesTo, Stop, event_stop, listed, no_counts, node_stops, stops_of}
+use Rattle.ta_witness.specs.Stops.{Stop}
 use Rattle.ta_witness.specs.Resting.{MomentRunsEndMarked}
 use Rattle.ta_witness.proofs.Listing.{are_listed, listed_moves}
 use Rattle.ta_witness.proofs.Marking.{stop_high}

@@ -1,12 +1,13 @@
 -- runs with the same start and the same steps have the same end
+use Rattle.ta_witness.proofs.Common.{place_of}
 use Rattle.ta_witness.proofs.RestCommon.{◌≡◌, inl, inr, ℕ, List, arith, sym, ap, ◌∙◌, get_or, ext_get_or, Automaton, At, Config, Initial, Run, IsFirstConfig}
-use Rattle.ta_base.proofs.Members.{contains_or, in_of, place_of}
+use Rattle.ta_base.proofs.Members.{contains_or, in_of}
 use Rattle.ta_base.proofs.Integers.{pos_same}
 use Rattle.ta_automaton.specs.Places.{Whole}
-use Rattle.ta_automaton.specs.Runs as runs
 use Rattle.ta_automaton.proofs.RunLaws.{counters_by_firings, parameters_stay, shared_by_firings}
 use Rattle.ta_replay.proofs.Showing.{first_whole}
 use Rattle.ta_rest.proofs.Resting.{whole_at}
+use Rattle.ta_automaton.specs.Runs as runs
 
 -- two configurations with the same parameters and counters
 pub record SameStart (c d : Config) : Type 0 where

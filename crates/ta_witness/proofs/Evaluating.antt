@@ -1,27 +1,20 @@
 -- the values of a node's vectors, and the order of its stops, as the code finds them
+use Rattle.ta_witness.proofs.Common.{In-numbers, in_numbers, moving_rules, int_lt, nat_lt, unsigned_abs, ◌||◌, any_below-at, any_below-next, any_below-none}
+use Rattle.ta_witness.proofs.Common.{below_by, beyond_by, any_below, IsNormal, point_of, value_of, Form, form_value, sorted_is_chain, sum_grows, Comparable}
+use Rattle.ta_witness.proofs.Common.{Counts, firings_in, counts_of, vector_of, count_at, form_values, is_below, moving_counts, listed}
 use Rattle.ta_moments.proofs.Common.{Bool, true, false, cond, ◌≡◌, inl, inr, ℕ, zero, suc, ◌+◌, ◌<◌, ◌≤◌, ◌^◌, ℤ, pos, ◌+ℤ◌, ◌*ℤ◌, ◌≤ℤ◌, List, [], ◌∷◌, length}
 use Rattle.ta_moments.proofs.Common.{map, slice_get, arith, ints, sym, ap, ◌∙◌, refl, cases_Bool, cases_lt, true≢false, eqb, range_sum-same, range_with_len, In}
-use Rattle.ta_moments.proofs.Common.{In-filter, In-numbers, in_filter, in_numbers, Automaton, Pattern, is_moving, moving_rules}
-use Rattle.std.specs.Prelude.{int_lt, nat_lt, unsigned_abs, ◌||◌}
-use Rattle.ta_base.proofs.Bits.{any_below-at, any_below-next, any_below-none}
-use Rattle.ta_base.proofs.Naturals.{below_by, beyond_by, cond_apart, cond_same}
-use Rattle.ta_base.specs.Masks.{any_below}
+use Rattle.ta_moments.proofs.Common.{In-filter, in_filter, Automaton, Pattern, is_moving}
+use Rattle.ta_base.proofs.Naturals.{cond_apart, cond_same}
 use Rattle.ta_linear.proofs.RangeSum.{terms_value-sum}
 use Rattle.ta_linear.proofs.TermLemmas.{coefficient-below}
-use Rattle.ta_linear.specs.Terms.{IsNormal, coefficient}
-use Rattle.ta_linear.specs.Values.{point_of, value_of}
-use Rattle.ta_linear.specs.declared.form.Form.{Form}
+use Rattle.ta_linear.specs.Terms.{coefficient}
 use Rattle.ta_moments.proofs.Values.{value_is, value_number}
 use Rattle.ta_moments.proofs.Worth.{number}
 use Rattle.ta_moments.specs.Laws.{Speaks}
-use Rattle.ta_moments.specs.Whole.{form_value}
-use Rattle.ta_moments.proofs.Segments.{sorted_is_chain, sum_grows}
-use Rattle.ta_moments.specs.Chains.{Comparable, Counts, firings_in}
-use Rattle.ta_moments.specs.Nodes.{IsNatural, counts_of}
-use Rattle.ta_moment_tree.specs.Forms.{form_of, vector_of}
-use Rattle.ta_scope.specs.Arranged.{count_at}
-use Rattle.ta_witness.specs.Inside.Stops.{VectorWithin, form_values, is_below, moving_counts}
-use Rattle.ta_witness.specs.Stops.{listed}
+use Rattle.ta_moments.specs.Nodes.{IsNatural}
+use Rattle.ta_moment_tree.specs.Forms.{form_of}
+use Rattle.ta_witness.specs.Inside.Stops.{VectorWithin}
 use Rattle.ta_witness.proofs.Bridging.{map_within}
 use Rattle.ta_witness.proofs.Listing.{are_listed, listed_at}
 

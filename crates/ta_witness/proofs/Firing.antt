@@ -1,20 +1,14 @@
 -- arranged firings lead from counts to the next ones of a chain
-use Rattle.ta_moments.proofs.Common.{◌≡◌, inl, inr, ℕ, ◌-◌, ◌<◌, ◌≤◌, ℤ, pos, ◌*ℤ◌, List, [], ◌∷◌, ◌++◌, length, map, cond, slice_get, arith, ints, sym, ap}
-use Rattle.ta_moments.proofs.Common.{◌∙◌, refl, subst, slice_get_within, range_with_len, In, Automaton, Pattern, Config, RowHolds, value_at, change_of}
-use Rattle.ta_moments.proofs.Common.{is_moving, moving_rules}
-use Rattle.std.specs.Prelude.{replicate}
-use Rattle.ta_automaton.specs.Runs.{InScope}
+use Rattle.ta_witness.proofs.Common.{◌-◌, value_at, moving_rules, replicate, InScope, total-within, Counts, Stands, firings_in, value_after, ArrangedOf}
+use Rattle.ta_witness.proofs.Common.{count_at, StepsWithin, arranged_steps, arranged_within, FromCounts, from_counts, firings_to, listed}
+use Rattle.ta_moments.proofs.Common.{◌≡◌, inl, inr, ℕ, ◌<◌, ◌≤◌, ℤ, pos, ◌*ℤ◌, List, [], ◌∷◌, ◌++◌, length, map, cond, slice_get, arith, ints, sym, ap}
+use Rattle.ta_moments.proofs.Common.{◌∙◌, refl, subst, slice_get_within, range_with_len, In, Automaton, Pattern, Config, RowHolds, change_of}
+use Rattle.ta_moments.proofs.Common.{is_moving}
 use Rattle.ta_automaton.proofs.Onward.{after, holds_before_last}
 use Rattle.ta_base.proofs.Lists.{without_last}
 use Rattle.ta_base.proofs.Times.{distinct-times}
-use Rattle.ta_base.proofs.Totals.{total-within}
-use Rattle.ta_moments.specs.Chains.{Counts, Link, Stands, firings_in, value_after}
+use Rattle.ta_moments.specs.Chains.{Link}
 use Rattle.ta_moments.proofs.Segments.{FiresTo, each_moving, fires_to, row_same, start_after, total_between}
-use Rattle.ta_scope.specs.Arranged.{ArrangedOf, count_at}
-use Rattle.ta_scope.specs.Legal.{StepsWithin, arranged_steps}
-use Rattle.ta_scope.proofs.Arranging.{arranged_within}
-use Rattle.ta_scope.proofs.ArrangedLaws.{FromCounts, from_counts}
-use Rattle.ta_witness.specs.Stops.{firings_to, listed}
 use Rattle.ta_witness.proofs.Listing.{abs_one, are_listed, listed_at, listed_most, listed_moves, one_in, total_listed, two_in}
 
 -- steps within one firing in all have none before the last

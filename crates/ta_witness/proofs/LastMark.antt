@@ -1,12 +1,10 @@
 -- the run of a solution of an added event's word ends with its mark
+use Rattle.ta_witness.proofs.Common.{Event, Meaning, Piece, last_lines, piece_lines, pieces_lines, step_line}
 use Rattle.ta_witness.proofs.RestCommon.{◌≡◌, inl, inr, ℕ, ◌≤◌, ℤ, true, List, [], ◌∷◌, ◌++◌, map, length, length-append, append_assoc, append-nil, reverse}
 use Rattle.ta_witness.proofs.RestCommon.{arith, sym, ap, ◌∙◌, subst, slice_get, None, reverse-append, reverse-reverse, same_Some, AllByRecursion, bit_set}
 use Rattle.ta_witness.proofs.RestCommon.{each_back, Automaton, Pattern, File, has_bit, Element, Solution, EndingsOf, by_event, Run, RunLine, Mark, Fits}
 use Rattle.ta_witness.proofs.RestCommon.{LineFits, WitnessOf, PiecesBack, pieces_back, values_of, parts_of, IsRestSolution, Event as PatternEvent}
 use Rattle.ta_witness.proofs.Making.{pieces_lines-append}
-use Rattle.ta_words.specs.declared.element.Element.TheVariants.{Event}
-use Rattle.ta_encode.specs.declared.meaning.Meaning.{Meaning}
-use Rattle.ta_replay.specs.Pieces.{Piece, last_lines, piece_lines, pieces_lines, step_line}
 use Rattle.ta_witness.proofs.OwnRuns.{ending_at}
 use Rattle.ta_witness.proofs.Resting.{rest_at, solutions_solve}
 

@@ -1,21 +1,10 @@
 -- the lines of the piece to a stop
+use Rattle.ta_witness.proofs.Common.{◌^◌, ◌<ℤ◌, int_lt, map-append, InScope, each_append, range_more, item_at, no_item, LineFits, step_line, RunLine, Mark}
+use Rattle.ta_witness.proofs.Common.{arranged_within, AreRuleCounts, ArrangedOf, count_at, AddsStop, AddsStops, gap, gaps, last_counts, marked}
 use Rattle.ta_moments.proofs.Common.{subst, ◌≡◌, inl, inr, ℕ, suc, ◌+◌, ◌<◌, ℤ, pos, ◌≤ℤ◌, List, [], ◌∷◌, ◌++◌, length, map, Some, Option, None, arith, ints}
 use Rattle.ta_moments.proofs.Common.{sym, ap, ◌∙◌, refl, append_assoc, cases_Bool, cases_lt, length-map, length-range_with_len, range_with_len, AllByRecursion}
 use Rattle.ta_moments.proofs.Common.{Automaton, Pattern}
-use Rattle.std.specs.Prelude.{◌^◌, ◌<ℤ◌, int_lt}
-use Rattle.std.proofs.lemmas.List.{map-append}
-use Rattle.ta_automaton.specs.Runs.{InScope}
-use Rattle.ta_base.proofs.Each.{each_append}
-use Rattle.ta_base.proofs.Lists.{range_more}
-use Rattle.ta_base.proofs.Ranges.{item_at, no_item}
-use Rattle.ta_replay.specs.Fits.{LineFits}
-use Rattle.ta_replay.specs.Pieces.{step_line}
-use Rattle.ta_replay.specs.declared.run.RunLine.{RunLine}
-use Rattle.ta_replay.specs.declared.run.RunLine.TheVariants.{Mark}
-use Rattle.ta_scope.proofs.Arranging.{arranged_within}
-use Rattle.ta_scope.specs.Arranged.{AreRuleCounts, ArrangedOf, count_at}
 use Rattle.ta_witness.proofs.Making.{steps_fit}
-use Rattle.ta_witness.specs.Inside.StopLines.{AddsStop, AddsStops, gap, gaps, last_counts, marked}
 use Rattle.ta_witness.specs.declared.stop.Stop.{Stop}
 
 pub numbers_more : (f : ℕ → ℤ) (i : ℕ) (xs : List ℤ) (z : ℤ) → xs ≡ map f (range_with_len 0 i) → z ≡ f i → xs ++ z ∷ [] ≡ map f (range_with_len 0 (i + 1))

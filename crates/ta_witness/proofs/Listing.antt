@@ -1,12 +1,8 @@
 -- numbers of firings as lists for each rule
+use Rattle.ta_witness.proofs.Common.{In-numbers, moving_rules, unsigned_abs, item_at, no_item, Counts, firings_in, AreRuleCounts, count_at, listed}
 use Rattle.ta_moments.proofs.Common.{Bool, true, false, cond, ◌≡◌, inl, inr, ℕ, ◌+◌, ◌<◌, ◌≤◌, ℤ, pos, negsuc, ◌*ℤ◌, ◌≤ℤ◌, List, [], ◌∷◌, length, filter}
 use Rattle.ta_moments.proofs.Common.{slice_get, arith, ints, sym, ap, ◌∙◌, refl, cases_Bool, cases_lt, length-map, length-range_with_len, range_with_len}
-use Rattle.ta_moments.proofs.Common.{filter_true, filter_false, In, In-filter, In-numbers, total, Automaton, Pattern, is_moving, moving_rules}
-use Rattle.std.specs.Prelude.{unsigned_abs}
-use Rattle.ta_base.proofs.Ranges.{item_at, no_item}
-use Rattle.ta_moments.specs.Chains.{Counts, firings_in}
-use Rattle.ta_scope.specs.Arranged.{AreRuleCounts, count_at}
-use Rattle.ta_witness.specs.Stops.{listed}
+use Rattle.ta_moments.proofs.Common.{filter_true, filter_false, In, In-filter, total, Automaton, Pattern, is_moving}
 
 -- the number of a rule
 pub listed_at : (a : Automaton) (p : Pattern) (n : Counts) (r : ℕ) → r < length a.rules

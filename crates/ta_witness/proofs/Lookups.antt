@@ -4,9 +4,10 @@ use Rattle.ta_witness.proofs.Common.{true, false, arith, refl, sym, ap, ◌∙�
 use Rattle.ta_witness.proofs.Common.{nat_tests, eqb_tells, AllByRecursion, filter_false, filter_true, other_number, same_number, Automaton, Pattern}
 use Rattle.ta_witness.proofs.Common.{range_with_len, In, total, Element, Event, Rise, Fall, allowed_rules, Meaning, Parameter, Start, Count, Single, meanings}
 use Rattle.ta_witness.proofs.Common.{counts_after, singles_after, sum_of_products, NumberBelow, numbers_below, same_meaning, unknown_value, drop-map}
+use Rattle.ta_witness.proofs.Common.{total-within}
 use Rattle.std.proofs.Math.IntN.{*ℤ-zero}
 use Rattle.ta_base.proofs.Integers.{pos_cond}
-use Rattle.ta_base.proofs.Totals.{total-zero, total-within}
+use Rattle.ta_base.proofs.Totals.{total-zero}
 
 -- no unknown of a list stands for this
 abbrev pub Lacks : Meaning → List Meaning → Type 0

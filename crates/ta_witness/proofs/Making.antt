@@ -1,5 +1,4 @@
 -- making the lists and lines of a run
-use Rattle.ta_automaton.specs.Narrow.{IsNarrow}
 use Rattle.ta_witness.proofs.Common.{◌≡◌, inl, inr, ℕ, zero, suc, ◌+◌, ◌^◌, ◌<◌, ◌≤◌, ℤ, pos, ◌≤ℤ◌, ◌<ℤ◌, List, [], ◌∷◌, ◌++◌, map, length, take, drop, reverse}
 use Rattle.ta_witness.proofs.Common.{get_or, cond, true, false, Some, None, slice_get, arith, refl, sym, ap, ◌∙◌, subst, append_assoc, append-nil}
 use Rattle.ta_witness.proofs.Common.{length-append, drop-cons, ints, slice_index_or, drop_all, take_more, map-append, length-map, length-take, length-reverse}
@@ -8,11 +7,9 @@ use Rattle.ta_witness.proofs.Common.{Pattern, File, range_with_len, InScope, pat
 use Rattle.ta_witness.proofs.Common.{Event, Fall, Meaning, Parameter, Start, legal_length, Solution, meanings, word_rows, Run, Step, Mark, Piece, step_line}
 use Rattle.ta_witness.proofs.Common.{last_lines, piece_lines, pieces_lines, same_meaning, unknown_value, PieceOf, PiecesOf, WitnessOf, counts_before}
 use Rattle.ta_witness.proofs.Common.{AreNaturals, AreValues, IsSingle, EachMayEnd, AddsPieceEnd, AddsPiece, AddsPieces, IsMadeFrom, RunOf, range_more}
-use Rattle.ta_witness.proofs.Common.{length-range_with_len}
+use Rattle.ta_witness.proofs.Common.{length-range_with_len, Value, RunLine, LineFits, Fits}
+use Rattle.ta_automaton.specs.Narrow.{IsNarrow}
 use Rattle.ta_linear.specs.Numbers.{InRange}
-use Rattle.ta_counter.specs.Values.{Value}
-use Rattle.ta_replay.specs.declared.run.RunLine.{RunLine}
-use Rattle.ta_replay.specs.Fits.{LineFits, Fits}
 use Rattle.ta_witness.proofs.Endings.{each_ends}
 
 -- looking for an unknown

@@ -1,31 +1,17 @@
 -- the run that is made is the node's
+use Rattle.ta_witness.proofs.Common.{Asking, Node, Point, event_vector, moving_rules, length-take, known_naturals, Meaning, Parameter, Start, spoken, WholeNode}
+use Rattle.ta_witness.proofs.Common.{event_moment, read_of, IsDraft, MomentEncoding, Fits, Run, ComeAfterEarlier, AreNaturals, same_meaning, EncodesSomeWhole}
+use Rattle.ta_witness.proofs.Common.{EncodesWhole, RunOfEncoding, StopFits, MomentWithin, shape, start_value, no_counts, node_stops}
 use Rattle.ta_moments.proofs.Common.{◌≡◌, ◌≤◌, ℕ, zero, suc, ◌+◌, ℤ, pos, ◌≤ℤ◌, List, [], ◌∷◌, cond, length, map, slice_get, take, Some, arith, sym, ap, ◌∙◌}
 use Rattle.ta_moments.proofs.Common.{refl, subst, same_Some, length-map, range_with_len, length-range_with_len, AllByRecursion, Automaton, Pattern, File}
-use Rattle.ta_moments.proofs.Common.{Asking, Node, Point, event_vector, moving_rules, after_earlier, pattern_within}
-use Rattle.std.proofs.lemmas.List.{length-take}
-use Rattle.ta_base.proofs.Each.{known_naturals}
+use Rattle.ta_moments.proofs.Common.{after_earlier, pattern_within}
 use Rattle.ta_encode.specs.Unknowns.{start_meanings}
-use Rattle.ta_encode.specs.declared.meaning.Meaning.{Meaning}
-use Rattle.ta_encode.specs.declared.meaning.Meaning.TheVariants.{Parameter, Start}
-use Rattle.ta_moments.proofs.Speaking.{spoken}
-use Rattle.ta_moments.specs.Whole.{WholeNode}
-use Rattle.ta_moments.proofs.Knowing.{event_moment}
-use Rattle.ta_moments.proofs.Wholes.{read_of}
-use Rattle.ta_moment_tree.specs.Draft.{IsDraft}
-use Rattle.ta_moment_tree.specs.declared.encoding.MomentEncoding.{MomentEncoding}
 use Rattle.ta_moment_tree.specs.declared.moment.Moment.{Moment as CodeMoment}
-use Rattle.ta_replay.specs.Fits.{Fits}
 use Rattle.ta_replay.specs.Replays.{ReplayStays}
-use Rattle.ta_replay.specs.declared.run.Run.{Run}
-use Rattle.ta_rest.specs.Rest.{ComeAfterEarlier}
-use Rattle.ta_witness.specs.Inside.Making.{AreNaturals}
 unfoldable use Rattle.ta_witness.specs.Values.{unknown_value}
-use Rattle.ta_witness.specs.Values.{same_meaning}
-use Rattle.ta_witness.specs.Given.{EncodesSomeWhole, EncodesWhole, RunOfEncoding, StaysWithin}
-use Rattle.ta_witness.specs.Inside.StopLines.{StopFits}
-use Rattle.ta_witness.specs.Inside.Stops.{MadeRun, MomentWithin, shape, shapes_from, with_shapes}
-use Rattle.ta_witness.specs.MomentRuns.{start_value}
-use Rattle.ta_witness.specs.Stops.{no_counts, node_stops, sorted_stops}
+use Rattle.ta_witness.specs.Given.{StaysWithin}
+use Rattle.ta_witness.specs.Inside.Stops.{MadeRun, shapes_from, with_shapes}
+use Rattle.ta_witness.specs.Stops.{sorted_stops}
 use Rattle.ta_witness.specs.declared.stop.Stop.{Stop as CodeStop}
 use Rattle.ta_witness.proofs.Bridging.{Pieced, pieced}
 use Rattle.ta_witness.proofs.MomentOnce.{one_run}

@@ -1,7 +1,6 @@
 -- one more value of a function, read from a list
 use Rattle.ta_witness.proofs.Common.{refl, ◌≡◌, ◌∙◌, ◌<◌, ◌+◌, ◌++◌, ◌∷◌, [], ap, sym, ℕ, ℤ, List, length, get_or, map, take, take_more, map-append, each_push}
-use Rattle.ta_witness.proofs.Common.{AreValues}
-use Rattle.ta_counter.specs.Values.{Value}
+use Rattle.ta_witness.proofs.Common.{AreValues, Value}
 
 pub mapped_more : {A : Type 0} (f : A → ℤ) (xs : List A) (i : ℕ) (d : A) (z : ℤ) (old new : List ℤ) → i < length xs → z ≡ f (get_or xs i d)
     → old ≡ map f (take i xs) → new ≡ old ++ z ∷ [] → new ≡ map f (take (i + 1) xs)

@@ -1,8 +1,7 @@
 -- the marks of sorted stops: by the sums of the events' counts, those with the same sum by number
-use Rattle.ta_moments.proofs.Common.{◌≡◌, ◌⊎◌, inl, inr, ℕ, zero, suc, ◌<◌, ◌≤◌, List, [], ◌∷◌, ◌++◌, slice_get, Some, arith, sym, ap, ◌∙◌, refl, subst}
+use Rattle.ta_witness.proofs.Common.{◌⊎◌, In-left, In-right, place_of, Rising, firings_in}
+use Rattle.ta_moments.proofs.Common.{◌≡◌, inl, inr, ℕ, zero, suc, ◌<◌, ◌≤◌, List, [], ◌∷◌, ◌++◌, slice_get, Some, arith, sym, ap, ◌∙◌, refl, subst}
 use Rattle.ta_moments.proofs.Common.{same_Some, cases_lt, In, in_append, in_at}
-use Rattle.ta_base.proofs.Members.{In-left, In-right, place_of}
-use Rattle.ta_moments.specs.Chains.{Rising, firings_in}
 unfoldable use Rattle.ta_witness.specs.Stops.{sorted_stops, with_stop}
 use Rattle.ta_witness.specs.Stops.{Stop}
 use Rattle.ta_witness.proofs.Walking.{stop_counts, stop_marks}

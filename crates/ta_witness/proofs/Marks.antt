@@ -5,14 +5,12 @@ use Rattle.ta_witness.proofs.Common.{append-nil, false≢true, and_parts, not-tr
 use Rattle.ta_witness.proofs.Common.{length-map, slice_get_within, all_below-at, bit_true, get_parts, reverse_onto, slice_get_left, times-append, Automaton}
 use Rattle.ta_witness.proofs.Common.{Pattern, has_bit, all_below, implies, In, times_in, Element, Event, Rise, Fall, has_event, follows, children, LegalWord}
 use Rattle.ta_witness.proofs.Common.{Meaning, position_in, steps_of, event_ready, Mark, unit_steps, Piece, MarksInOrder, pieces_lines, pieces_marks}
-use Rattle.ta_witness.proofs.Common.{piece_lines, step_line, last_lines, steps_until, no_steps, last_item}
+use Rattle.ta_witness.proofs.Common.{piece_lines, step_line, last_lines, steps_until, no_steps, last_item, place_of, unit_steps-append}
 use Rattle.ta_base.proofs.Times.{times-in}
-use Rattle.ta_base.proofs.Members.{place_of}
 use Rattle.ta_base.proofs.Booleans.{implies-at}
 use Rattle.ta_automaton.specs.declared.pattern.Event.{Event as PatternEvent}
-use Rattle.ta_scope.specs.Legal as scope
-use Rattle.ta_replay.proofs.Lines.{unit_steps-append}
 use Rattle.ta_witness.proofs.Backward.{PiecesBack, piece_rules, last_rules}
+use Rattle.ta_scope.specs.Legal as scope
 
 -- newer elements without an event leave its position
 keep_position : (newer : List Element) (fs : List (List ℕ)) (past : List Element) (firings : List (List ℕ)) (e : ℕ) → length fs ≡ length newer

@@ -1,14 +1,8 @@
 -- a node has one run at its values
-use Rattle.ta_moments.proofs.Common.{◌≡◌, ℕ, List, [], ◌∷◌, length, map, sym, ap, ◌∙◌, refl, subst, range_with_len, same_Some, Automaton, Pattern, File, Asking}
-use Rattle.ta_moments.proofs.Common.{Node, moving_rules}
-use Rattle.ta_encode.specs.declared.meaning.Meaning.TheVariants.{Parameter, Start}
-use Rattle.ta_moments.specs.Chains.{Counts}
-use Rattle.ta_replay.proofs.OneRun.{run_same}
-use Rattle.ta_replay.specs.Pieces.{Piece, pieces_lines}
-use Rattle.ta_replay.specs.declared.run.Run.{Run}
-use Rattle.ta_scope.proofs.ArrangedOnce.{arranged_once}
-use Rattle.ta_witness.specs.Stops.{PiecesTo, Stop, firings_to, no_counts, node_stops, sorted_stops}
-use Rattle.ta_witness.specs.MomentRuns.{MomentRunOf, start_value}
+use Rattle.ta_witness.proofs.Common.{Asking, Node, moving_rules, Parameter, Start, Counts, run_same, Piece, pieces_lines, Run, arranged_once, PiecesTo}
+use Rattle.ta_witness.proofs.Common.{firings_to, no_counts, node_stops, MomentRunOf, start_value}
+use Rattle.ta_moments.proofs.Common.{◌≡◌, ℕ, List, [], ◌∷◌, length, map, sym, ap, ◌∙◌, refl, subst, range_with_len, same_Some, Automaton, Pattern, File}
+use Rattle.ta_witness.specs.Stops.{Stop, sorted_stops}
 use Rattle.ta_witness.specs.MomentLaws.{MomentRunsAreDetermined}
 
 piece_same : (x y : Piece) → x.steps ≡ y.steps → x.last ≡ y.last → x.marks ≡ y.marks → x ≡ y

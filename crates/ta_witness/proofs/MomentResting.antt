@@ -1,37 +1,29 @@
 -- at rest, the run of a whole node comes to quiet rest
-use Rattle.ta_moments.proofs.Common.{◌≡◌, inl, inr, ℕ, ◌+◌, ◌-◌, ◌<◌, ◌≤◌, List, [], ◌∷◌, length, slice_get, Some, Option, arith, sym, ap, ◌∙◌, refl, subst}
-use Rattle.ta_moments.proofs.Common.{same_Some, slice_get_within, get_or, some_at, cases_lt, In, Automaton, Pattern, Event, Config, At, Holds, Occurs}
-use Rattle.ta_moments.proofs.Common.{after_earlier, pattern_within, value_at, moving_rules, place_form, event_vector, end_vector, Node, known_at, of_rest}
-use Rattle.ta_moments.specs.Whole.{WholeNode, form_value}
+use Rattle.ta_witness.proofs.Common.{◌-◌, At, value_at, moving_rules, event_vector, end_vector, Node, known_at, of_rest, WholeNode, form_value}
+use Rattle.ta_witness.proofs.Common.{get_or_from_slice_get, InScope, Counts, NoneFewer, Rising, firings_in, value_after, counts_of, comparisons_same}
+use Rattle.ta_witness.proofs.Common.{all_positions, only_last, sorted_is_chain, Piece, Shows, unit_steps, Run, ComesLast, ComeAfterEarlier, no_counts}
+use Rattle.ta_witness.proofs.Common.{node_stops}
+use Rattle.ta_moments.proofs.Common.{◌≡◌, inl, inr, ℕ, ◌+◌, ◌<◌, ◌≤◌, List, [], ◌∷◌, length, slice_get, Some, Option, arith, sym, ap, ◌∙◌, refl, subst}
+use Rattle.ta_moments.proofs.Common.{same_Some, slice_get_within, get_or, some_at, cases_lt, In, Automaton, Pattern, Event, Config, Holds, Occurs}
+use Rattle.ta_moments.proofs.Common.{after_earlier, pattern_within, place_form}
 use Rattle.std.specs.Prelude.{set}
 use Rattle.std.proofs.lemmas.List.{get_or_past, length-set}
-use Rattle.std.proofs.lemmas.Option.{get_or_from_slice_get}
 use Rattle.ta_base.proofs.Lists.{get-set_other, get-set_same}
-use Rattle.ta_automaton.specs.Runs.{InScope}
-use Rattle.ta_moments.specs.Chains.{Counts, NoneFewer, Rising, firings_in, value_after}
-use Rattle.ta_moments.specs.Nodes.{counts_of}
-use Rattle.ta_moments.proofs.Happening.{comparisons_same}
 use Rattle.ta_moments.proofs.Knowing.{event_natural}
-use Rattle.ta_moments.proofs.Nodes.{all_positions}
 use Rattle.ta_moments.proofs.Pictures.{value_same}
-use Rattle.ta_moments.proofs.Resting.{only_last, quiet_there}
-use Rattle.ta_moments.proofs.Segments.{sorted_is_chain}
+use Rattle.ta_moments.proofs.Resting.{quiet_there}
 use Rattle.ta_replay.proofs.Occurring.{shown_occurs}
-use Rattle.ta_replay.specs.Pieces.{Piece}
-use Rattle.ta_replay.specs.Shows.{IsFirstConfig, Shows, unit_steps}
-use Rattle.ta_replay.specs.declared.run.Run.{Run}
+use Rattle.ta_replay.specs.Shows.{IsFirstConfig}
 use Rattle.ta_rest.proofs.EndingLaws.{end_config, endings_alike, positions_within}
-use Rattle.ta_automaton.specs.Runs as runs
-use Rattle.ta_rest.specs.Endings.{ComesLast}
 use Rattle.ta_rest.specs.Quiet.{QuietRest}
-use Rattle.ta_rest.specs.Rest.{ComeAfterEarlier}
 use Rattle.ta_witness.proofs.Ends.{begins_same, ends_same}
-use Rattle.ta_witness.specs.Stops.{Stop, no_counts, node_stops, sorted_stops}
+use Rattle.ta_witness.specs.Stops.{Stop, sorted_stops}
 use Rattle.ta_witness.specs.Resting.{MomentRunsRest, OccursAtQuietRest}
 use Rattle.ta_witness.proofs.Walking.{last_counts, stop_counts}
 use Rattle.ta_witness.proofs.Sorting.{sorted_has, sorted_only, sorted_rising}
 use Rattle.ta_witness.proofs.Positions.{counts_in, in_counts}
 use Rattle.ta_witness.proofs.Showing.{Seen, Walked, run_in, seen, shows_in, walked}
+use Rattle.ta_automaton.specs.Runs as runs
 
 -- the last of rising counts is none of the fewer
 last_high : (rs : List ℕ) (low : ℕ) (v : Counts) (ss : List Stop) → Rising rs low (stop_counts ss) → (u : Counts) → In u (stop_counts ss)

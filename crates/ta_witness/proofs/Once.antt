@@ -1,8 +1,8 @@
 -- a solution of a system of rest has one run less the mark of an added event
+use Rattle.ta_witness.proofs.Common.{run_same}
 use Rattle.ta_witness.proofs.RestCommon.{◌≡◌, ℕ, Bool, true, false, cond, [], ◌∷◌, ap, sym, ◌∙◌, false≢true, true≢false, append_cancel_right, has_bit, Run}
 use Rattle.ta_witness.proofs.RestCommon.{Mark}
 use Rattle.ta_witness.proofs.RestCommon.{RestWitnessesAreDetermined, ending_run, marked_at_end}
-use Rattle.ta_replay.proofs.OneRun.{run_same}
 use Rattle.ta_witness.proofs.WitnessOnce.{one_witness}
 use Rattle.ta_witness.proofs.OwnRuns.{ending_steps}
 use Rattle.ta_witness.proofs.Resting.{solutions_solve}

@@ -1,30 +1,21 @@
 -- the code's stops are a node's
+use Rattle.ta_witness.proofs.Common.{In-map, Asking, Node, Point, event_vector, known_at, moving_rules, nat_lt, place_of, below_by, WholeNode, whole_settled}
+use Rattle.ta_witness.proofs.Common.{Comparable, firings_in, counts_of, IsDraft, vector_of, ComeAfterEarlier, StopFits, marked, MomentWithin, Shape, is_below}
+use Rattle.ta_witness.proofs.Common.{mark_at, moment_shapes, shape, event_stop, listed, moment_stops, node_stops, stops_of}
 use Rattle.ta_moments.proofs.Common.{true, false, cond, ◌≡◌, inl, inr, ℕ, zero, suc, ◌+◌, ◌<◌, ◌≤◌, ℤ, pos, ◌≤ℤ◌, List, [], ◌∷◌, ◌++◌, length, map, drop}
 use Rattle.ta_moments.proofs.Common.{slice_get, Some, None, Option, arith, sym, ap, ◌∙◌, refl, subst, same_Some, cases_Bool, nat_tests, true≢false}
-use Rattle.ta_moments.proofs.Common.{range_with_len, AllByRecursion, In, In-map, Automaton, Pattern, Asking, Node, Moment, Point, event_vector, is_moving}
-use Rattle.ta_moments.proofs.Common.{known_at, moving_rules}
-use Rattle.std.specs.Prelude.{nat_lt}
-use Rattle.ta_base.proofs.Members.{place_of}
-use Rattle.ta_base.proofs.Naturals.{below_by}
+use Rattle.ta_moments.proofs.Common.{range_with_len, AllByRecursion, In, Automaton, Pattern, Moment, is_moving}
 use Rattle.ta_moments.specs.Moments.{Known, Vector, early, is_pair}
-use Rattle.ta_moments.specs.Whole.{WholeNode}
-use Rattle.ta_moments.proofs.Wholes.{whole_settled}
-use Rattle.ta_moments.specs.Chains.{Comparable, firings_in}
-use Rattle.ta_moments.specs.Nodes.{IsMoment, counts_of}
+use Rattle.ta_moments.specs.Nodes.{IsMoment}
 use Rattle.ta_moment_tree.proofs.Fitting.{draft_fits}
-use Rattle.ta_moment_tree.specs.Draft.{IsDraft}
-use Rattle.ta_moment_tree.specs.Forms.{vector_of}
 use Rattle.ta_moment_tree.specs.Moments.{MomentsSpeak, moment_of, moments_of}
 use Rattle.ta_moment_tree.specs.declared.draft.Draft.{Draft}
 use Rattle.ta_moment_tree.specs.declared.moment.Moment.{Moment as CodeMoment}
 use Rattle.ta_moment_tree.specs.declared.moment.Moment.TheVariants.{Point as CodePoint, Pair as CodePair}
-use Rattle.ta_rest.specs.Rest.{ComeAfterEarlier}
 use Rattle.ta_witness.specs.declared.stop.Stop.{Stop as CodeStop}
-use Rattle.ta_witness.specs.Inside.StopLines.{StopFits, marked}
 unfoldable use Rattle.ta_witness.specs.Inside.Stops.{shapes_from, with_shape, with_shapes}
-use Rattle.ta_witness.specs.Inside.Stops.{MomentWithin, Shape, is_below, mark_at, moment_shapes, shape}
 unfoldable use Rattle.ta_witness.specs.Stops.{sorted_stops, with_stop}
-use Rattle.ta_witness.specs.Stops.{Stop, event_stop, listed, moment_stops, node_stops, stops_of}
+use Rattle.ta_witness.specs.Stops.{Stop}
 use Rattle.ta_witness.proofs.Bridging.{AreStops}
 use Rattle.ta_witness.proofs.Evaluating.{below_same, counts_listed, vector_within}
 use Rattle.ta_witness.proofs.Listing.{are_listed, natural_or}

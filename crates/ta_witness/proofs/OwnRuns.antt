@@ -1,4 +1,5 @@
 -- a run of an ending is, less the mark of an added event, a run of the pattern itself
+use Rattle.ta_witness.proofs.Common.{slice_get_left, point_of, Value, unit_steps-append}
 use Rattle.ta_witness.proofs.RestCommon.{◌≡◌, inl, inr, ℕ, zero, suc, ◌+◌, ◌<◌, ℤ, Bool, true, false, List, [], ◌∷◌, ◌++◌, length, length-append, append-nil}
 use Rattle.ta_witness.proofs.RestCommon.{cond}
 use Rattle.ta_witness.proofs.RestCommon.{take, get_or, arith, sym, ap, ◌∙◌, refl, subst, slice_get, Some, IsBitSet, slice_index, cases_Bool, false≢true}
@@ -11,17 +12,14 @@ use Rattle.ta_witness.proofs.RestCommon.{Mark, Fits, LineFits, ConditionStays, L
 use Rattle.ta_witness.proofs.RestCommon.{MarkedOnce}
 use Rattle.ta_witness.proofs.RestCommon.{MarksAt, ShowsPattern, unit_steps, OwnRunsRest, OccursAtRest, ending_run, marked_at_end, Event}
 use Rattle.std.proofs.lemmas.Nat.Bits.{bit_at_ones}
-use Rattle.ta_base.proofs.Lists.{slice_get_left, slice_get_right, none_of_empty}
-use Rattle.ta_linear.specs.Values.{point_of}
+use Rattle.ta_base.proofs.Lists.{slice_get_right, none_of_empty}
 use Rattle.ta_automaton.specs.declared.condition.Condition.{Condition}
-use Rattle.ta_automaton.specs.Runs as runs
 use Rattle.ta_automaton.proofs.Trails.{run_length}
 use Rattle.ta_counter.specs.Configs.{naturals}
-use Rattle.ta_counter.specs.Values.{Value}
 use Rattle.ta_rest.proofs.EndingShapes.{ending_last}
-use Rattle.ta_replay.proofs.Lines.{unit_steps-append}
 use Rattle.ta_witness.proofs.Ends.{begins_same, ends_same}
 use Rattle.std.proofs.lemmas.List.{take-append-le}
+use Rattle.ta_automaton.specs.Runs as runs
 
 -- the pattern of an ending
 pub ending_at : (ps qs : List Pattern) → Endings ps qs → (k : ℕ) (q : Pattern) → slice_get qs k ≡ Some q → (p : Pattern) × (slice_get ps k ≡ Some p)

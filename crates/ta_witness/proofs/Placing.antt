@@ -1,13 +1,10 @@
 -- where the code puts stops
+use Rattle.ta_witness.proofs.Common.{◌-◌, drop, get_or, drop-cons, drop-map, drop_all, map-append, take-map, take_more, Places, Shape, is_below, moment_shapes}
+use Rattle.ta_witness.proofs.Common.{shape, MomentStays}
 use Rattle.ta_moments.proofs.Common.{true, false, cond, ◌≡◌, ℕ, suc, ◌+◌, ◌<◌, ◌≤◌, ℤ, List, [], ◌∷◌, ◌++◌, length, map, take, arith, sym, ap, ◌∙◌, refl}
-use Rattle.ta_moments.proofs.Common.{append_assoc, subst, ◌-◌, AllByRecursion, Automaton, Pattern}
-use Rattle.std.specs.Prelude.{drop, get_or}
-use Rattle.std.proofs.Common.{drop-cons}
-use Rattle.std.proofs.lemmas.List.{drop-map, drop_all, map-append, take-map, take_more}
+use Rattle.ta_moments.proofs.Common.{append_assoc, subst, AllByRecursion, Automaton, Pattern}
 use Rattle.ta_moment_tree.specs.declared.moment.Moment.{Moment}
 unfoldable use Rattle.ta_witness.specs.Inside.Stops.{shapes_from, with_shape, with_shapes}
-use Rattle.ta_witness.specs.Inside.Stops.{Places, Shape, is_below, moment_shapes, shape}
-use Rattle.ta_witness.specs.Given.{MomentStays}
 use Rattle.ta_witness.specs.declared.stop.Stop.{Stop}
 
 pub goes_behind : (s t : Shape) (ts : List Shape) → is_below t.0 s.0 ≡ true → with_shape s (t ∷ ts) ≡ t ∷ with_shape s ts

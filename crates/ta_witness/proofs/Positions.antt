@@ -1,14 +1,14 @@
 -- the stops of a node are at the positions of its moments
-use Rattle.ta_moments.proofs.Common.{◌≡◌, inl, inr, ℕ, zero, suc, ◌+◌, ◌-◌, ◌<◌, List, [], ◌∷◌, ◌++◌, map, drop, length, slice_get, Some, arith, sym, ap, ◌∙◌}
-use Rattle.ta_moments.proofs.Common.{refl, subst, same_Some, cases_lt, range_with_len, In, In-map, In-numbers, in_append, in_at, in_map, in_numbers, Automaton}
-use Rattle.ta_moments.proofs.Common.{Pattern, Moment, Point, Pair, event_vector}
+use Rattle.ta_witness.proofs.Common.{◌-◌, In-map, In-numbers, in_numbers, Point, Pair, event_vector, In-left, In-right, place_of, Counts, firings_in, counts_of}
+use Rattle.ta_witness.proofs.Common.{all_positions, event_stop, moment_stops, stops_of}
+use Rattle.ta_moments.proofs.Common.{◌≡◌, inl, inr, ℕ, zero, suc, ◌+◌, ◌<◌, List, [], ◌∷◌, ◌++◌, map, drop, length, slice_get, Some, arith, sym, ap, ◌∙◌}
+use Rattle.ta_moments.proofs.Common.{refl, subst, same_Some, cases_lt, range_with_len, In, in_append, in_at, in_map, Automaton}
+use Rattle.ta_moments.proofs.Common.{Pattern, Moment}
 use Rattle.ta_base.proofs.Lists.{get_drop}
-use Rattle.ta_base.proofs.Members.{In-left, In-right, place_of}
-use Rattle.ta_moments.specs.Chains.{Counts, firings_in}
-use Rattle.ta_moments.specs.Nodes.{counts_of, positions_of}
-use Rattle.ta_moments.proofs.Nodes.{all_positions, early_in, from, late_in}
+use Rattle.ta_moments.specs.Nodes.{positions_of}
+use Rattle.ta_moments.proofs.Nodes.{early_in, from, late_in}
 use Rattle.ta_moments.proofs.Settling.{each_position}
-use Rattle.ta_witness.specs.Stops.{Stop, event_stop, event_stops, moment_stops, plain_stop, stops_of}
+use Rattle.ta_witness.specs.Stops.{Stop, event_stops, plain_stop}
 use Rattle.ta_witness.proofs.Walking.{stop_counts, stop_marks}
 use Rattle.ta_witness.proofs.Marking.{ByNumber, MarksOwn}
 

@@ -1,13 +1,13 @@
 -- the run of a solution of a system of rest ends at rest
+use Rattle.ta_witness.proofs.Common.{LegalWord, SolvedWord, WordFires, start_values, steps_of, AllHold}
 use Rattle.ta_witness.proofs.RestCommon.{◌≡◌, ℕ, ◌+◌, ◌<◌, ◌^◌, ℤ, true, List, [], ◌∷◌, ◌++◌, map, length, take, reverse, unsigned_abs, arith, sym, ap, ◌∙◌}
 use Rattle.ta_witness.proofs.RestCommon.{refl, subst, slice_index, AllByRecursion, bit_set, each_at, Automaton, Pattern, File, has_bit, At, Config, InScope}
 use Rattle.ta_witness.proofs.RestCommon.{after_earlier, pattern_within, Element, Solution, ComesLast, AtRest, ComeAfterEarlier, RestOccurs, end_config}
 use Rattle.ta_witness.proofs.RestCommon.{end_hold, steps_rest, Run, IsFirstConfig, ShowsPattern, unit_steps, WitnessOf, piece_rules, pieces_back, pieces_fire}
 use Rattle.ta_witness.proofs.RestCommon.{values_of, Parts, parts_of, RestSolutionsSolve, RestWitnessesRest, IsRestSolution, OccursAtRest}
-use Rattle.ta_words.specs.Words.{LegalWord, is_complete}
-use Rattle.ta_encode.specs.Laws.{SolvedWord, WordFires, start_values, steps_of}
+use Rattle.ta_words.specs.Words.{is_complete}
 use Rattle.ta_encode.specs.Search.{SolvesAt}
-use Rattle.ta_encode.specs.System.{AllHold, LinearRow, word_rows}
+use Rattle.ta_encode.specs.System.{LinearRow, word_rows}
 use Rattle.ta_encode.specs.Unknowns.{start_meanings}
 use Rattle.ta_rest.specs.Laws.{RestSolved}
 use Rattle.ta_rest.specs.RestSearch.{rest_search}

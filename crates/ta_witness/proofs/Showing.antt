@@ -4,41 +4,29 @@
 -- the run lead from each stop to the next, so each mark stands where the firings have the counts of its event, and there the
 -- event's condition holds. Events with the same counts are marked by number, and an event comes after others of lower numbers
 -- alone: so marks keep the order of the pattern.
+use Rattle.ta_witness.proofs.Common.{At, value_at, moving_rules, Point, event_vector, end_vector, Asking, Node, known_at, slice_index, true, unsigned_abs}
+use Rattle.ta_witness.proofs.Common.{InScope, Parameter, Start, spoken, WholeNode, Stands, Chain, Counts, Rising, firings_in, value_after, counts_of}
+use Rattle.ta_witness.proofs.Common.{comparisons_same, event_moment, all_positions, Emptied, no_firings, sum_grows, read_of, whole_settled, show, MarksInOrder}
+use Rattle.ta_witness.proofs.Common.{Piece, PiecesHappen, pieces_lines, pieces_marks, steps_until, ShowsPattern, unit_steps, Run, ComeAfterEarlier, PiecesTo}
+use Rattle.ta_witness.proofs.Common.{no_counts, node_stops, MomentRunOf, WholeOf, start_value}
 use Rattle.ta_moments.proofs.Common.{◌≤◌, cases_lt, Moment, inl, Config, File, ◌≡◌, inr, ℕ, ◌+◌, ◌<◌, ℤ, List, [], ◌++◌, map, length, slice_get, arith, sym, ap}
 use Rattle.ta_moments.proofs.Common.{◌∙◌, refl, subst, same_Some, slice_get_within, bit_true, has_bit, range_with_len, In, in_at, times_in, times-in, Automaton}
-use Rattle.ta_moments.proofs.Common.{Pattern, At, after_earlier, pattern_within, value_at, moving_rules, Point, event_vector, end_vector, Asking, Node}
-use Rattle.ta_moments.proofs.Common.{known_at, rows_at_start}
-use Rattle.std.specs.Prelude.{slice_index, true, unsigned_abs}
-use Rattle.ta_automaton.specs.Runs as runs
-use Rattle.ta_automaton.specs.Runs.{InScope}
+use Rattle.ta_moments.proofs.Common.{Pattern, after_earlier, pattern_within}
+use Rattle.ta_moments.proofs.Common.{rows_at_start}
 use Rattle.ta_base.proofs.Times.{times-numbers}
 use Rattle.ta_encode.proofs.Appending.{trail_begun}
 unfoldable use Rattle.ta_encode.specs.Unknowns.{meanings}
-use Rattle.ta_encode.specs.declared.meaning.Meaning.TheVariants.{Parameter, Start}
-use Rattle.ta_moments.proofs.Speaking.{spoken}
-use Rattle.ta_moments.specs.Whole.{WholeNode}
-use Rattle.ta_moments.specs.Chains.{Stands, Chain, Counts, Rising, firings_in, value_after}
-use Rattle.ta_moments.specs.Nodes.{counts_of}
-use Rattle.ta_moments.proofs.Happening.{comparisons_same}
-use Rattle.ta_moments.proofs.Knowing.{event_moment}
-use Rattle.ta_moments.proofs.Nodes.{PictureOf, all_positions, picture_of}
+use Rattle.ta_moments.proofs.Nodes.{PictureOf, picture_of}
 use Rattle.ta_moments.proofs.Pictures.{links}
 use Rattle.ta_moments.proofs.Reading.{all_met}
-use Rattle.ta_moments.proofs.Segments.{Emptied, no_firings, sum_grows}
-use Rattle.ta_moments.proofs.Wholes.{read_of, whole_settled}
-use Rattle.ta_replay.proofs.PieceLines.{show}
-use Rattle.ta_replay.specs.Pieces.{MarksInOrder, Piece, PiecesHappen, pieces_lines, pieces_marks, steps_until}
-use Rattle.ta_replay.specs.Shows.{ShowsPattern, unit_steps}
-use Rattle.ta_replay.specs.declared.run.Run.{Run}
-use Rattle.ta_rest.specs.Rest.{ComeAfterEarlier}
 use Rattle.ta_witness.proofs.Starts.{counts_are, parameters_are}
-use Rattle.ta_witness.specs.Stops.{PiecesTo, no_counts, node_stops, sorted_stops}
-use Rattle.ta_witness.specs.MomentRuns.{MomentRunOf, WholeOf, start_value}
+use Rattle.ta_witness.specs.Stops.{sorted_stops}
 use Rattle.ta_witness.specs.MomentLaws.{MomentRunsShow}
 use Rattle.ta_witness.proofs.Walking.{last_counts, Walks, marks_are, stop_counts, stop_marks, stop_of, walk}
 use Rattle.ta_witness.proofs.Sorting.{sorted_has, sorted_only, sorted_rising, sorted_times}
 use Rattle.ta_witness.proofs.Marking.{marked_before, sorted_turn}
 use Rattle.ta_witness.proofs.Positions.{StopsOf, counts_in, in_counts, stops_are}
+use Rattle.ta_automaton.specs.Runs as runs
 
 -- what a whole node says: a picture, and its stops
 pub record Seen (a : Automaton) (p : Pattern) (asking : Asking) (node : Node) (vs : List ℕ) : Type 0 where

@@ -1,9 +1,7 @@
 -- stops by the sum of their counts
-use Rattle.ta_moments.proofs.Common.{true, false, cond, ◌≡◌, ◌⊎◌, inl, inr, ℕ, ◌+◌, ◌<◌, ◌≤◌, List, [], ◌∷◌, ◌++◌, arith, sym, ap, refl, subst, cases_Bool, In}
+use Rattle.ta_witness.proofs.Common.{◌⊎◌, nat_lt, below_by, beyond_by, Rising, firings_in}
+use Rattle.ta_moments.proofs.Common.{true, false, cond, ◌≡◌, inl, inr, ℕ, ◌+◌, ◌<◌, ◌≤◌, List, [], ◌∷◌, ◌++◌, arith, sym, ap, refl, subst, cases_Bool, In}
 use Rattle.ta_moments.proofs.Common.{times_in, times-append}
-use Rattle.std.specs.Prelude.{nat_lt}
-use Rattle.ta_base.proofs.Naturals.{below_by, beyond_by}
-use Rattle.ta_moments.specs.Chains.{Rising, firings_in}
 unfoldable use Rattle.ta_witness.specs.Stops.{sorted_stops, with_stop}
 use Rattle.ta_witness.specs.Stops.{Stop}
 use Rattle.ta_witness.proofs.Walking.{stop_counts, stop_marks}

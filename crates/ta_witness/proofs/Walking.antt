@@ -1,18 +1,13 @@
 -- the pieces of stops lead from one to the next
+use Rattle.ta_witness.proofs.Common.{At, InScope, Chain, Counts, Stands, Emptied, Piece, piece_lines, pieces_lines, pieces_marks, steps_until, unit_steps}
+use Rattle.ta_witness.proofs.Common.{unit_steps-append, arranged_steps, PiecesTo}
 use Rattle.ta_moments.proofs.Common.{◌≡◌, ℕ, zero, suc, ◌+◌, List, [], ◌∷◌, ◌++◌, length, take, slice_get, Some, None, Option, arith, sym, ap, ◌∙◌, refl, subst}
-use Rattle.ta_moments.proofs.Common.{append_assoc, append-nil, length-append, same_Some, Automaton, Pattern, Config, At}
-use Rattle.ta_automaton.specs.Runs.{InScope}
+use Rattle.ta_moments.proofs.Common.{append_assoc, append-nil, length-append, same_Some, Automaton, Pattern, Config}
 use Rattle.ta_automaton.proofs.Trails.{Trail, Grows}
 use Rattle.ta_encode.proofs.Appending.{trail_append}
-use Rattle.ta_moments.specs.Chains.{Chain, Counts, Stands}
-use Rattle.ta_moments.proofs.Segments.{Emptied}
-use Rattle.ta_replay.specs.Pieces.{Piece, piece_lines, pieces_lines, pieces_marks, steps_until}
-use Rattle.ta_replay.specs.Shows.{unit_steps}
-use Rattle.ta_replay.proofs.Lines.{unit_steps-append}
-use Rattle.ta_scope.specs.Legal.{arranged_steps}
 use Rattle.ta_witness.proofs.Backward.{last_rules}
 use Rattle.ta_witness.proofs.Marks.{all_steps}
-use Rattle.ta_witness.specs.Stops.{PiecesTo, Stop}
+use Rattle.ta_witness.specs.Stops.{Stop}
 use Rattle.ta_witness.proofs.Firing.{fires}
 
 -- the counts of stops, in order

@@ -3,10 +3,8 @@ use Rattle.ta_witness.proofs.Common.{◌≡◌, ℕ, ℤ, pos, List, [], ◌∷�
 use Rattle.ta_witness.proofs.Common.{AllHold-left, Automaton, Pattern, File, range_with_len, Element, Event, Rise, Fall, allowed_rules, Solution, Parameter}
 use Rattle.ta_witness.proofs.Common.{Start, Single, AllHold, word_rows, counts_after, meanings, one_single, only_single, singles_hold, AllHold-right, Run}
 use Rattle.ta_witness.proofs.Common.{Piece, pieces_lines, unknown_value, EndsPiece, PieceOf, PiecesOf, WitnessOf, WitnessesAreDetermined, counts_before}
-use Rattle.ta_witness.proofs.Common.{solution_value}
+use Rattle.ta_witness.proofs.Common.{solution_value, run_same, arranged_once}
 use Rattle.ta_encode.proofs.Safety.{first_rows}
-use Rattle.ta_replay.proofs.OneRun.{run_same}
-use Rattle.ta_scope.proofs.ArrangedOnce.{arranged_once}
 use Rattle.ta_witness.proofs.Backward.{PiecesBack, older, pieces_back, values_of}
 use Rattle.ta_witness.proofs.Lookups.{one_found}
 

@@ -11,13 +11,13 @@ use Rattle.ta_witness.proofs.Common.{after_earlier, arranged_within, Element, Ev
 use Rattle.ta_witness.proofs.Common.{Meaning, Parameter, Start, meanings, SolvedWord, position_in, steps_of, Run, unit_steps, ShowsPattern, Piece, OncePerRule}
 use Rattle.ta_witness.proofs.Common.{HasFewSteps, PiecesHappen, pieces_lines, steps_count, are_short, show, unknown_value, IsSolution, PiecesOf, EndsPiece}
 use Rattle.ta_witness.proofs.Common.{WitnessOf, WitnessesShow, solution_value}
-use Rattle.ta_automaton.specs.Runs as runs
 use Rattle.ta_encode.proofs.Theorems.{these_run}
 use Rattle.ta_witness.proofs.Backward.{pieces_back, pieces_fire, piece_rules, values_of, are_counts}
 use Rattle.ta_witness.proofs.Marks.{all_steps, position_at, marks_in_order}
 use Rattle.ta_witness.proofs.Starts.{parameters_are, counts_are}
 use Rattle.std.proofs.lemmas.Option.{same_Some}
 use Rattle.ta_base.proofs.Naturals.{product_most}
+use Rattle.ta_automaton.specs.Runs as runs
 
 -- a run of pieces whose events and steps are those of a solution
 pub record Parts (a : Automaton) (p : Pattern) (start : ℕ) (word : List Element) (vs : List ℕ) (run : Run) : Type 0 where

@@ -1,20 +1,16 @@
 -- the text of the trees of safe endings is a certificate that a judge accepts
+use Rattle.ta_verdict.proofs.Common.{arith, lit<, IsNarrow, IsWithin, Limits, QuietRestCertificate, Moments, Words, most_unknowns}
 use Rattle.ta_verdict.proofs.rest.Common.{◌≡◌, ◌∙◌, ℕ, ◌≤◌, Bool, true, false, List, [], ◌++◌, Some, slice_get, refl, subst, sym, File, Pattern, Node, Proof}
 use Rattle.ta_verdict.proofs.rest.Common.{Verdict, moments_of, of_rest, rest_search, AreTreesOf, Pick, safe_among, safe_picked, ended_line, RestBudget}
 use Rattle.ta_verdict.proofs.rest.Common.{RestCertificateOf, rest_head, rest_text_by, rest_tree, rest_tree_by, RestSafe, no_pairs_good, pattern_within}
 use Rattle.ta_verdict.proofs.rest.Common.{proof_made, proofs_text, IsProof}
-use Rattle.std.proofs.Common.{arith, lit<}
-use Rattle.ta_automaton.specs.Narrow.{IsNarrow, IsWithin}
-use Rattle.ta_base.specs.declared.limits.Limits.{Limits}
-use Rattle.ta_cert.specs.declared.line.Line.TheVariants as line
-use Rattle.ta_check.specs.Certificate.{QuietRestCertificate}
-use Rattle.ta_check.specs.Subjects.{Moments, Words, claiming_with}
+use Rattle.ta_check.specs.Subjects.{claiming_with}
 use Rattle.ta_moment_tree.specs.Makers.{moment_maker}
 use Rattle.ta_walk.proofs.NodesMade.{proof_made as moments_proof}
 use Rattle.ta_verdict.proofs.CertificatesMade.{accepted, all_short, cert_written, made, moments_room, no_words, question_written, safe_distinct, safe_named}
 use Rattle.ta_verdict.proofs.CertificatesMade.{version_short}
 use Rattle.ta_verdict.proofs.CertificatesMade.{words_room}
-use Rattle.ta_walk.specs.Ends.{most_unknowns}
+use Rattle.ta_cert.specs.declared.line.Line.TheVariants as line
 
 -- the nodes of such a tree
 words_judged : (ending : File) (budget : RestBudget) → IsNarrow ending.automaton → budget.nodes ≤ 1000000000 → (number : ℕ) (p : Pattern)

@@ -1,9 +1,9 @@
 -- the lines of a tree at rest in a draft
+use Rattle.ta_verdict.proofs.Common.{false≢true, Draft}
 use Rattle.ta_verdict.proofs.rest.Common.{◌≡◌, Bool, true, false, ℕ, List, subst, File, Pattern, Search, Verdict, Safe, Unsafe, Spent, Overflow, KeepsSafe}
 use Rattle.ta_verdict.proofs.rest.Common.{DraftKeeps, DraftHasTree, Drafted, TreeIs, OfPattern, OwnVerdict, RestBudget, RestFile, VerdictFits, moments_of}
 use Rattle.ta_verdict.proofs.rest.Common.{moments_within, of_rest, rest_search, rest_tree, words_within}
-use Rattle.std.proofs.lemmas.Bool.{false≢true, true≢false}
-use Rattle.ta_verdict.specs.declared.draft.Draft.{Draft}
+use Rattle.std.proofs.lemmas.Bool.{true≢false}
 
 -- a verdict on the ending of a pattern with its number, as `Drafted` says
 abbrev pub DraftedAtRest : RestFile → RestBudget → ℕ → Verdict → Draft → Draft → Type 0

@@ -1,23 +1,20 @@
 -- the run of a whole node of an ending's moments, less the mark of an added event, is one of the file's own pattern
+use Rattle.ta_verdict.proofs.Common.{Config, OccursAtQuietRest, Fits, QuietRestOccurs, ending_steps, IsShortRun}
 use Rattle.ta_verdict.proofs.rest.Common.{◌≡◌, ◌∙◌, inl, inr, ℕ, List, [], ◌∷◌, length, true, Some, slice_get, sym, ap, subst, arith, each_at, File, Automaton}
 use Rattle.ta_verdict.proofs.rest.Common.{Pattern, Run, EndingsOf, IsEnding, RestFile, Found, of_rest, EndsAsAdded, ending_run}
 use Rattle.std.proofs.Common.{length-append}
-use Rattle.ta_automaton.specs.Runs.{Config}
 use Rattle.ta_automaton.specs.declared.pattern.Event.{Event}
 use Rattle.ta_base.proofs.Bits.{bit_set}
 use Rattle.ta_base.specs.Masks.{has_bit}
-use Rattle.ta_witness.specs.Resting.{OccursAtQuietRest}
 use Rattle.ta_witness.proofs.EndMark.{ends_with_event}
 use Rattle.ta_witness.proofs.MomentResting.{runs_rest}
 use Rattle.ta_moment_tree.specs.Makers.{node_of}
 use Rattle.ta_walk.specs.Found.{RunAt, ShownRun}
-use Rattle.ta_replay.specs.Fits.{Fits}
 use Rattle.ta_rest.specs.Endings.{ComesLast}
-use Rattle.ta_rest.specs.Quiet.{QuietRest, QuietRestOccurs}
-use Rattle.ta_witness.proofs.OwnRuns.{ComesToAny, begins_own, ending_steps, own_comes}
+use Rattle.ta_rest.specs.Quiet.{QuietRest}
+use Rattle.ta_witness.proofs.OwnRuns.{ComesToAny, begins_own, own_comes}
 use Rattle.ta_verdict.proofs.rest.VerdictsTold.{ending_of_own}
 use Rattle.ta_verdict.specs.Rest.QuietRuns.{ComesToQuietRest, QuietRunOf}
-use Rattle.ta_witness.specs.Witness.{IsShortRun}
 
 -- where an event was added to a pattern, its ending has this event alone
 one_added : (file ending : File) (added : ℕ) → EndingsOf file ending added → (number : ℕ) (q : Pattern) → slice_get ending.patterns number ≡ Some q

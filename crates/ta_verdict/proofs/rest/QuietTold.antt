@@ -1,21 +1,15 @@
 -- what is known of verdicts by moments on runs that come to quiet rest, as they are made
+use Rattle.ta_verdict.proofs.Common.{LoopsPure, claimed_with, LostAt, Fits, ReportKind, loops_pure, VerdictAnswers, place_of, PlaceKind}
 use Rattle.ta_verdict.proofs.rest.Common.{◌≡◌, ℕ, ◌≤◌, List, [], ◌∷◌, Some, slice_get, sym, subst, Automaton, File, Pattern, Node, Run, RestFile}
 use Rattle.ta_verdict.proofs.rest.Common.{Safe, Unsafe, Spent, Overflow, IsSpent, TreeKept, OwnVerdict, moments_of}
 use Rattle.ta_verdict.proofs.rest.Common.{of_rest, EndsAsAdded, ending_run, moments_within, quiet_question, run_leaves}
-use Rattle.ta_automaton.specs.Runs.{LoopsPure}
-use Rattle.ta_check.specs.Subjects.{claimed_with}
 use Rattle.ta_rest.specs.declared.claim.Claim.TheVariants.{RestSafe}
 use Rattle.ta_walk.proofs.NodesMade.{refuted_rest_hold}
-use Rattle.ta_walk.specs.MomentEnds.{LostAt, RunFound}
-use Rattle.ta_replay.specs.Fits.{Fits}
-use Rattle.ta_report.specs.declared.verdict.ReportKind.{ReportKind}
-use Rattle.ta_report.specs.declared.verdict.ReportKind.TheVariants as kind
+use Rattle.ta_walk.specs.MomentEnds.{RunFound}
 use Rattle.ta_rest.proofs.QuietResting.{rest_safe_is}
 use Rattle.ta_rest.specs.Quiet.{QuietRestSafe}
-use Rattle.ta_scope.proofs.Judging.{loops_pure}
-use Rattle.ta_verdict.specs.Verdicts.{VerdictAnswers, place_of}
-use Rattle.ta_walk.specs.declared.end.PlaceKind.{PlaceKind}
 use Rattle.ta_verdict.proofs.rest.QuietRuns.{quiet_run}
+use Rattle.ta_report.specs.declared.verdict.ReportKind.TheVariants as kind
 
 -- with no silent places quiet rest is rest
 claimed_quietly : (silent : List ℕ) (a : Automaton) (p : Pattern) → QuietRestSafe a silent p → claimed_with RestSafe silent a p

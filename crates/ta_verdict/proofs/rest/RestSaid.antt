@@ -1,18 +1,13 @@
 -- what a verdict at rest that holds says of a file's own pattern, by either tree
+use Rattle.ta_verdict.proofs.Common.{Config, claimed_with, OccursAtQuietRest, QuietRestOccurs, ending_steps, tree_size}
 use Rattle.ta_verdict.proofs.rest.Common.{◌≡◌, ◌∙◌, ℕ, Bool, true, false, List, [], ◌∷◌, length, Some, slice_get, refl, sym, ap, subst, Automaton, File}
 use Rattle.ta_verdict.proofs.rest.Common.{Pattern, Run, Verdict, Safe, Unsafe, Spent, Overflow, RestBudget, RestVerdictHolds, rest_holds_by}
-use Rattle.ta_automaton.specs.Runs.{Config}
-use Rattle.ta_check.specs.Subjects.{claimed_with}
-use Rattle.ta_rest.specs.declared.claim.Claim.TheVariants as claim
-use Rattle.ta_witness.specs.Resting.{OccursAtQuietRest}
 use Rattle.ta_rest.proofs.QuietResting.{rest_is}
-use Rattle.ta_rest.specs.Quiet.{QuietRestOccurs}
 use Rattle.ta_rest.specs.Rest.{RestOccurs}
 use Rattle.ta_witness.proofs.Ends.{end_whole}
-use Rattle.ta_witness.proofs.OwnRuns.{ending_steps}
 use Rattle.ta_witness.specs.Runs.{OccursAtRest}
 use Rattle.ta_verdict.specs.Rest.Said.{IsLoudByWords, RestVerdictsClaim, RestVerdictsShow, SaidAtRest, occurs_with}
-use Rattle.ta_verdict.specs.Certificates.{tree_size}
+use Rattle.ta_rest.specs.declared.claim.Claim.TheVariants as claim
 
 -- without silent places, who comes to quiet rest comes to rest
 pub quiet_is_rest : (a : Automaton) (p : Pattern) (first : Config) (rules : List ℕ) → QuietRestOccurs a [] p first rules → RestOccurs a p first rules

@@ -1,4 +1,5 @@
 -- a report names a file's own patterns as it names their endings
+use Rattle.ta_verdict.proofs.Common.{Fits, ReportSample}
 use Rattle.ta_verdict.proofs.rest.Common.{◌≡◌, inl, inr, ℕ, zero, suc, true, false, List, [], ◌∷◌, ◌++◌, map, length, codes, Option, slice_get, arith, sym, ap}
 use Rattle.ta_verdict.proofs.rest.Common.{◌∙◌, refl, AllByRecursion, Automaton, File, Pattern, Pick, All, One, listed, picked, Run, Endings, IsEnding, Verdict}
 use Rattle.ta_verdict.proofs.rest.Common.{Safe, Unsafe, Spent, Overflow, RestTextsAreAlike, map-append, endings_names, EndingsOf, VerdictFits, rest_word}
@@ -8,13 +9,12 @@ use Rattle.ta_verdict.proofs.rest.VerdictsTold.{ending_there}
 use Rattle.ta_automaton.specs.Patterns.{event_name, pattern_name}
 use Rattle.ta_replay.specs.declared.run.RunLine.{RunLine}
 use Rattle.ta_replay.specs.declared.run.RunLine.TheVariants.{Step, Mark}
-use Rattle.ta_replay.specs.Fits.{Fits, LineFits}
-use Rattle.serde_json.specs.Data as json
+use Rattle.ta_replay.specs.Fits.{LineFits}
 use Rattle.serde_json.specs.Written.{compact_text}
 use Rattle.ta_report.specs.Json.{digits_data, one_member, values_data, verdict_member}
 use Rattle.ta_report.specs.Report.{unsafe_word}
 use Rattle.ta_replay.specs.RunText.{line_of, lines_of, lines_text, name_at, named_line, run_lines, run_text, slots, value_lines}
-use Rattle.ta_report.specs.declared.verdict.ReportSample.{ReportSample}
+use Rattle.serde_json.specs.Data as json
 use Rattle.ta_report.specs.declared.verdict.ReportSample.TheVariants as sample
 
 -- the line of a step or of a mark

@@ -1,9 +1,9 @@
 -- verdicts at rest that are made of endings are those of each file that has these
+use Rattle.ta_verdict.proofs.Common.{Fits}
 use Rattle.ta_verdict.proofs.rest.Common.{Bool, true, false, ℕ, ◌+◌, List, ◌∙◌, Pick, first_picked, picked, picked_count, as_many, arith, slice_get_within}
 use Rattle.ta_verdict.proofs.rest.Common.{some_at, AllByRecursion, File, Pattern, Verdict}
 use Rattle.ta_verdict.proofs.rest.Common.{Safe, Unsafe, Spent, Overflow, VerdictFits, EachHolds, endings_count, RestBudget, rest_holds_by, Run, RestFile}
 use Rattle.ta_verdict.proofs.rest.Common.{OwnVerdict, OwnVerdicts, RestVerdictHolds, each_at, each_from, held_by, holds_weaker}
-use Rattle.ta_replay.specs.Fits.{Fits}
 
 -- the run of a verdict that holds fits the file
 run_fits : (lazy : Bool) (file ending : File) (added : ℕ) (budget : RestBudget) (number : ℕ) (own p : Pattern) (nodes : ℕ) (run : Run)

@@ -1,13 +1,11 @@
 -- a pattern of a file has one verdict on its runs that come to rest for one budget
+use Rattle.ta_verdict.proofs.Common.{runs_once, ReplayStays, one_witness}
 use Rattle.ta_verdict.proofs.rest.Common.{◌≡◌, ℕ, Bool, true, false, List, length, subst, arith, Some, slice_get, slice_get_within, some_at, File, Pattern}
 use Rattle.ta_verdict.proofs.rest.Common.{Verdict, ending_run, endings_count, EndingVerdictHolds, RestBudget, moments_of, of_rest, quiet_question}
 use Rattle.ta_verdict.proofs.rest.Common.{rest_holds_by, rest_question, RestVerdictsAreDetermined}
-use Rattle.ta_walk.proofs.RunsOnce.{runs_once}
-use Rattle.ta_replay.specs.Replays.{ReplayStays}
 use Rattle.ta_witness.proofs.Once.{marks_once, one_rest_witness}
 use Rattle.ta_witness.proofs.Resting.{solutions_solve}
 use Rattle.ta_verdict.proofs.VerdictsOnce.{HasOneRun, HasOneSolution, answer_once, found_once, picked_same, words_have_one}
-use Rattle.ta_witness.proofs.WitnessOnce.{one_witness}
 use Rattle.ta_verdict.proofs.rest.RestsSolved.{found_solved}
 
 words_have_one_run : (file ending : File) (added number budget : ℕ) (own p : Pattern) → slice_get ending.patterns number ≡ Some p

@@ -1,13 +1,11 @@
 -- what is known of verdicts on runs that come to rest, as they are made
+use Rattle.ta_verdict.proofs.Common.{AllocError, IsNarrow, loops_pure}
 use Rattle.ta_verdict.proofs.rest.Common.{◌≡◌, ℕ, zero, suc, refl, ◌∙◌, same_Some, ◌<◌, ◌≤◌, List, [], ◌∷◌, length, sym, subst, Some, slice_get, Result, Ok}
 use Rattle.ta_verdict.proofs.rest.Common.{Err, IfOk, Automaton, File, Pattern, Node, IsLeaf, Search, Solution, in_order, weaker_proof, IsJudged, Endings}
 use Rattle.ta_verdict.proofs.rest.Common.{IsEnding, rest_search, refuted_show, IsRestSolution, Verdict, Safe, Unsafe, Spent, Overflow, come_after, IsSpent}
 use Rattle.ta_verdict.proofs.rest.Common.{NodeOf, TreeKept, SolutionAt, IsNotSafe, KeepsSafe, OwnVerdict, some_at, OfPattern, RestFile, pattern_within}
 use Rattle.ta_verdict.proofs.rest.Common.{RestSafe as ClaimRestSafe, proof_made, words_within}
-use Rattle.std.specs.declared.alloc.AllocError.{AllocError}
-use Rattle.ta_automaton.specs.Narrow.{IsNarrow}
 use Rattle.ta_rest.specs.Rest.{RestSafe}
-use Rattle.ta_scope.proofs.Judging.{loops_pure}
 use Rattle.ta_walk.proofs.SpentSplits.{split_of_words}
 use Rattle.ta_verdict.proofs.rest.RestsSolved.{found_solved}
 

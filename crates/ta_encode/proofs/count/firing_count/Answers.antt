@@ -1,6 +1,6 @@
 use Rattle.ta_encode.proofs.Common.{◌+◌, ◌<◌, ◌^◌, arith, ap, sym, ◌∙◌, has_bit, bit_off, bit_on, count_few, count_none, count_one}
-use Rattle.ta_encode.proofs.count.firing_count.Goals as goal
 use Rattle.ta_encode.proofs.count.firing_count.Goals.{then-allowed-rule-ne0, else-allowed-rule-ne0}
+use Rattle.ta_encode.proofs.count.firing_count.Goals as goal
 
 pub overflow_add-count : goal.overflow_add-count
 overflow_add-count c =

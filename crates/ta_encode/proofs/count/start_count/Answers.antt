@@ -3,8 +3,8 @@ use Rattle.ta_encode.proofs.Common.{has_bit, bit_off, bit_on, filter_shorter, it
 use Rattle.ta_encode.proofs.Masked.{initial_within}
 use Rattle.ta_encode.proofs.Counting.{start_length}
 use Rattle.ta_encode.proofs.Drafts.{initial_few}
-use Rattle.ta_encode.proofs.count.start_count.Goals as goal
 use Rattle.ta_encode.proofs.count.start_count.Goals.{then-pattern-location-eq0, else-pattern-location-eq0}
+use Rattle.ta_encode.proofs.count.start_count.Goals as goal
 
 pub overflow_shl-location : goal.overflow_shl-location
 overflow_shl-location c = initial_within c.args.automaton.now c.as_slice-location-items.result.now c.loop-location.location-index 0

@@ -1,6 +1,5 @@
-use Rattle.ta_encode.proofs.Common.{◌≡◌, ℕ, List, length, arith, ap, subst, ◌∙◌}
+use Rattle.ta_encode.proofs.Common.{◌≡◌, ℕ, List, length, arith, ap, subst, ◌∙◌, AreCounters}
 use Rattle.ta_encode.specs.declared.meaning.Meaning.TheVariants.{Parameter}
-use Rattle.ta_encode.specs.Inside.Counters.{AreCounters}
 use Rattle.ta_encode.proofs.CounterRows.{none_written, one_more}
 use Rattle.ta_encode.proofs.counters.counters_at.Goals as goal
 

@@ -1,5 +1,4 @@
-use Rattle.ta_encode.proofs.Common.{◌≡◌, length}
-use Rattle.ta_encode.specs.Inside.Counters.{AreCounters}
+use Rattle.ta_encode.proofs.Common.{◌≡◌, length, AreCounters}
 use Rattle.ta_encode.proofs.counters.counters_at.Given as goal
 
 abbrev pub invariant-loop-unknown : goal.invariant-loop-unknown

@@ -1,6 +1,4 @@
-use Rattle.ta_encode.proofs.Common.{ℕ, ◌∷◌, ◌++◌, [], ◌≡◌, List, length, arith, sym, ap, subst, length-append}
-use Rattle.ta_encode.specs.Inside.Counters.{terms_at}
-use Rattle.ta_encode.specs.declared.counters.Counter.{Counter}
+use Rattle.ta_encode.proofs.Common.{ℕ, ◌∷◌, ◌++◌, [], ◌≡◌, List, length, arith, sym, ap, subst, length-append, terms_at, Counter}
 use Rattle.ta_encode.proofs.CounterRows.{none_more}
 use Rattle.ta_encode.proofs.counters.no_terms.Goals as goal
 

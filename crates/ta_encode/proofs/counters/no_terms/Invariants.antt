@@ -1,5 +1,4 @@
-use Rattle.ta_encode.proofs.Common.{ℕ, ◌≡◌, [], length}
-use Rattle.ta_encode.specs.Inside.Counters.{terms_at}
+use Rattle.ta_encode.proofs.Common.{ℕ, ◌≡◌, [], length, terms_at}
 use Rattle.ta_encode.proofs.counters.no_terms.Given as goal
 
 abbrev pub invariant-loop : goal.invariant-loop

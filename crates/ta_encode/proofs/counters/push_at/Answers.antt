@@ -1,6 +1,4 @@
-use Rattle.ta_encode.proofs.Common.{ℕ, ℤ, ◌<◌, ◌^◌, ◌∷◌, ◌++◌, [], arith, ap, ◌∙◌, unsigned_abs, to_z_range}
-use Rattle.ta_encode.specs.Inside.Counters.{terms_in}
-use Rattle.ta_encode.specs.declared.counters.Counter.{Counter}
+use Rattle.ta_encode.proofs.Common.{ℕ, ℤ, ◌<◌, ◌^◌, ◌∷◌, ◌++◌, [], arith, ap, ◌∙◌, unsigned_abs, to_z_range, terms_in, Counter}
 use Rattle.ta_encode.proofs.CounterRows.{written_here, written_there}
 use Rattle.ta_encode.proofs.counters.push_at.Goals as goal
 

@@ -1,7 +1,7 @@
 use Rattle.ta_encode.proofs.Common.{List, length, reverse, sym, ap, ◌∙◌, subst, Element, BoundsWithin, IsDraftOf, word_rows}
 use Rattle.ta_encode.proofs.Drafts.{word_few}
-use Rattle.ta_encode.proofs.encoded.encode.Goals as goal
 use Rattle.ta_encode.proofs.encoded.encode.Goals.{In_ok-push_elements}
+use Rattle.ta_encode.proofs.encoded.encode.Goals as goal
 
 -- the unknowns and rows are those of the word
 drafted : (c : In_ok-push_elements) → IsDraftOf c.args.task.automaton.now c.args.task.pattern.now c.args.start_mask (reverse c.args.word.now)

@@ -1,4 +1,4 @@
-use Rattle.std.proofs.Common.{◌≡◌, ◌≤◌, length, take}
+use Rattle.ta_encode.proofs.Common.{◌≡◌, ◌≤◌, length, take}
 use Rattle.ta_encode.proofs.growing.shared_length.Given as goal
 
 abbrev pub invariant-loop-number : goal.invariant-loop-number

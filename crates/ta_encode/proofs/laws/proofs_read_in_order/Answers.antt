@@ -1,4 +1,4 @@
-use Rattle.ta_encode.specs.Refutes.{IsLeaf}
+use Rattle.ta_encode.proofs.Common.{IsLeaf}
 use Rattle.ta_encode.proofs.Preorders.{in_order, determined}
 use Rattle.ta_encode.proofs.laws.proofs_read_in_order.Goals as goal
 

@@ -1,4 +1,4 @@
-use Rattle.ta_encode.specs.Unknowns.{place_coefficient}
+use Rattle.ta_encode.proofs.Common.{place_coefficient}
 use Rattle.ta_encode.proofs.Running.{Valued}
 use Rattle.ta_encode.proofs.line.value_in.Given as goal
 

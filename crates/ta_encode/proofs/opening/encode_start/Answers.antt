@@ -1,6 +1,4 @@
-use Rattle.ta_encode.proofs.Common.{◌∙◌, append-nil, subst}
-use Rattle.ta_encode.specs.Code.{AreRowsOf}
-use Rattle.ta_encode.specs.System.{open_rows}
+use Rattle.ta_encode.proofs.Common.{◌∙◌, append-nil, subst, AreRowsOf, open_rows}
 use Rattle.ta_encode.proofs.opening.encode_start.Goals as goal
 
 pub encoded-requires : goal.encoded-requires

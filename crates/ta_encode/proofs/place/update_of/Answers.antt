@@ -1,7 +1,7 @@
 use Rattle.ta_encode.proofs.Common.{◌≡◌, ℕ, ℤ, ◌≤◌, List, to_z, length, arith, sym, ap, ◌∙◌, subst, w128, AllByRecursion, coefficient}
 use Rattle.ta_encode.proofs.Running.{Small, count_fits, count_more, count_past, counted_all}
-use Rattle.ta_encode.proofs.place.update_of.Goals as goal
 use Rattle.ta_encode.proofs.place.update_of.Goals.{then-number-variable, else-number-variable}
+use Rattle.ta_encode.proofs.place.update_of.Goals as goal
 
 pub overflow_add-total : goal.overflow_add-total
 overflow_add-total c =

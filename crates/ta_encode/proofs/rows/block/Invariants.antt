@@ -1,5 +1,4 @@
-use Rattle.std.proofs.Common.{ℤ}
-use Rattle.ta_encode.specs.Inside.Sparse.{Sparse}
+use Rattle.ta_encode.proofs.Common.{ℤ, Sparse}
 use Rattle.ta_encode.proofs.Blocks.{block}
 use Rattle.ta_encode.proofs.rows.block.Given as goal
 

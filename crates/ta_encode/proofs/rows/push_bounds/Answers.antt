@@ -1,5 +1,4 @@
-use Rattle.ta_encode.proofs.Common.{pos, ◌∷◌, [], ap, arith, map, take, get_or, each_get_or, Bound, Low, bound_row, BoundWithin}
-use Rattle.std.proofs.lemmas.List.{take_all}
+use Rattle.ta_encode.proofs.Common.{pos, ◌∷◌, [], ap, arith, map, take, get_or, each_get_or, Bound, Low, bound_row, BoundWithin, take_all}
 use Rattle.ta_encode.proofs.Adding.{adds_join, adds_none, adds_same, map_more}
 use Rattle.ta_encode.proofs.rows.push_bounds.Goals as goal
 

@@ -1,8 +1,8 @@
 use Rattle.ta_encode.proofs.Common.{◌≡◌, List, length, arith, sym, ap, ◌∙◌, subst, AreWritten, BoundsWithin, sample_meanings, sample_rows, Meaning}
 use Rattle.ta_encode.proofs.Samples.{sample_few, sample_written}
 use Rattle.ta_encode.proofs.Smallness.{resilience_small}
-use Rattle.ta_encode.proofs.sample.encode_sample.Goals as goal
 use Rattle.ta_encode.proofs.sample.encode_sample.Goals.{In_ok-push_processes}
+use Rattle.ta_encode.proofs.sample.encode_sample.Goals as goal
 
 written : (c : In_ok-push_processes) → (c.push_processes.new.self.meanings.items ≡ sample_meanings c.args.file.now.automaton)
     × AreWritten (sample_rows c.args.file.now.automaton) (length c.push_processes.new.self.meanings.items) c.push_processes.new.self.rows.items

@@ -1,8 +1,8 @@
 use Rattle.ta_encode.proofs.Common.{length, ◌<◌, ◌++◌, ◌∷◌, [], map, arith, ap, ◌∙◌, append_assoc, filter, has_bit, range_with_len, bit_off, bit_on}
 use Rattle.ta_encode.proofs.Common.{passed_none, passed_one, firing}
-use Rattle.ta_encode.proofs.unknowns.push_firings.Goals as goal
 use Rattle.ta_encode.proofs.unknowns.push_firings.Goals.{then-allowed-rule-ne0+in_ok-push, else-allowed-rule-ne0}
 use Rattle.ta_base.proofs.Ranges.{passed_most}
+use Rattle.ta_encode.proofs.unknowns.push_firings.Goals as goal
 
 pub loop-rule-preserved : goal.loop-rule-preserved
 loop-rule-preserved c =

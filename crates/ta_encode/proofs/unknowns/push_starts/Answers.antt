@@ -1,10 +1,9 @@
-use Rattle.ta_encode.proofs.Common.{ℕ, Bool, ◌++◌, ◌∷◌, [], map, not, take, get_or, ap, ◌∙◌, append_assoc, filter, has_bit, bit_off, bit_on, item_none}
-use Rattle.ta_encode.proofs.Common.{◌≡◌, item_one, sym, Start}
+use Rattle.ta_encode.proofs.Common.{ℕ, Bool, ◌++◌, ◌∷◌, [], map, not, take, get_or, ap, ◌∙◌, append_assoc, filter, has_bit, bit_off, bit_on, item_none, ◌≡◌}
+use Rattle.ta_encode.proofs.Common.{item_one, sym, Start, take_all}
 use Rattle.std.proofs.Common.{append-nil}
-use Rattle.std.proofs.lemmas.List.{take_all}
 use Rattle.ta_encode.proofs.Masked.{initial_within}
-use Rattle.ta_encode.proofs.unknowns.push_starts.Goals as goal
 use Rattle.ta_encode.proofs.unknowns.push_starts.Goals.{then-empty-location-eq0+in_ok-push, else-empty-location-eq0}
+use Rattle.ta_encode.proofs.unknowns.push_starts.Goals as goal
 
 pub overflow_shl-location : goal.overflow_shl-location
 overflow_shl-location c = initial_within c.args.automaton.now c.as_slice-location-items.result.now c.loop-location.location-index 0

@@ -2,8 +2,8 @@ use Rattle.ta_maker.proofs.Common.{◌≡◌, ◌∙◌, sym, ap, length, arith,
 use Rattle.ta_maker.proofs.Common.{plain_rule, plain_sum, numbered}
 use Rattle.ta_maker.proofs.Counting.{few_rules}
 use Rattle.ta_maker.proofs.Naming.{is_lone, name_n, shallow_lone}
-use Rattle.ta_maker.proofs.family.family.Goals as goal
 use Rattle.ta_base.proofs.Ranges.{few_counted}
+use Rattle.ta_maker.proofs.family.family.Goals as goal
 
 pub spelled-requires : goal.spelled-requires
 spelled-requires c = name_n

@@ -1,4 +1,4 @@
-use Rattle.std.proofs.Common.{drop}
+use Rattle.ta_meaning.proofs.Common.{drop}
 use Rattle.ta_meaning.proofs.DeclaredSteps.{DeclaredTo}
 use Rattle.ta_meaning.proofs.declarations.declare_names.Given as goal
 

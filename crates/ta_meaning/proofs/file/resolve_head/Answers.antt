@@ -1,7 +1,6 @@
-use Rattle.ta_meaning.proofs.Common.{Ok, Err, err_is}
+use Rattle.ta_meaning.proofs.Common.{Ok, Err, err_is, empty_both}
 use Rattle.ta_meaning.proofs.Answering.{append-left-first, append-right-first}
 use Rattle.ta_meaning.proofs.Whole.{processes-answer, resilience-answer}
-use Rattle.ta_base.proofs.Lists.{empty_both}
 use Rattle.ta_meaning.proofs.file.resolve_head.Goals as goal
 
 pub returns-in_err-processes : goal.returns-in_err-processes

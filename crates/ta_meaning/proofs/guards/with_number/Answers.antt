@@ -1,5 +1,4 @@
-use Rattle.ta_base.proofs.Bits.{one_bit_more}
-use Rattle.ta_meaning.proofs.Common.{refl, w16, w64, bit_at_set_same, bit_at_set_other}
+use Rattle.ta_meaning.proofs.Common.{one_bit_more, refl, w16, w64, bit_at_set_same, bit_at_set_other}
 use Rattle.ta_meaning.proofs.guards.with_number.Goals as goal
 
 pub returns-in-Rise : goal.returns-in-Rise

@@ -1,5 +1,4 @@
-use Rattle.ta_meaning.proofs.Common.{Ok, Err, refl, err_is, slice_range}
-use Rattle.ta_base.proofs.Lists.{slice_range-end}
+use Rattle.ta_meaning.proofs.Common.{Ok, Err, refl, err_is, slice_range, slice_range-end}
 use Rattle.ta_meaning.proofs.PlaceScopes.{listed_along}
 use Rattle.ta_meaning.proofs.patterns.after_mask.Goals as goal
 

@@ -1,6 +1,5 @@
-use Rattle.ta_meaning.proofs.Common.{◌+◌, drop, sym, all_names, slice_range, kinds_of}
+use Rattle.ta_meaning.proofs.Common.{◌+◌, drop, sym, all_names, slice_range, kinds_of, slice_range-end}
 use Rattle.ta_meaning.proofs.PlaceNames.{all_names_are}
-use Rattle.ta_base.proofs.Lists.{slice_range-end}
 use Rattle.ta_meaning.proofs.PlaceScopes.{listed_along}
 use Rattle.ta_meaning.proofs.patterns.empty_mask.Goals as goal
 

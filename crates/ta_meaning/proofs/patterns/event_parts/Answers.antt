@@ -1,7 +1,6 @@
-use Rattle.ta_meaning.proofs.Common.{inr, refl, err_is, kinds_of}
+use Rattle.ta_meaning.proofs.Common.{inr, refl, err_is, kinds_of, empty_both}
 use Rattle.ta_meaning.proofs.Answering.{append-left-first, append-right-first}
 use Rattle.ta_meaning.proofs.PatternSteps.{event_resolved}
-use Rattle.ta_base.proofs.Lists.{empty_both}
 use Rattle.ta_meaning.proofs.patterns.event_parts.Goals as goal
 
 pub returns-in_err-declare : goal.returns-in_err-declare

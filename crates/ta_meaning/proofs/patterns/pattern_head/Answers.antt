@@ -1,6 +1,5 @@
-use Rattle.ta_meaning.proofs.Common.{inr, err_is}
+use Rattle.ta_meaning.proofs.Common.{inr, err_is, empty_both}
 use Rattle.ta_meaning.proofs.Answering.{append-left-first, append-right-first}
-use Rattle.ta_base.proofs.Lists.{empty_both}
 use Rattle.ta_meaning.proofs.patterns.pattern_head.Goals as goal
 
 pub returns-in_err-check_declared : goal.returns-in_err-check_declared

@@ -1,6 +1,5 @@
-use Rattle.ta_meaning.proofs.Common.{List, map, refl, sym, subst, err_is, plain_event, Event, pattern_name, ResolvedEvents, kinds_of}
+use Rattle.ta_meaning.proofs.Common.{List, map, refl, sym, subst, err_is, plain_event, Event, pattern_name, ResolvedEvents, kinds_of, empty_left}
 use Rattle.ta_meaning.proofs.PatternSteps.{pattern_stops_at_head, pattern_stops_at_events, pattern_has_none, pattern_resolved}
-use Rattle.ta_base.proofs.Lists.{empty_left}
 use Rattle.ta_meaning.proofs.patterns.resolve_pattern.Goals as goal
 
 pub returns-in_err-head : goal.returns-in_err-head

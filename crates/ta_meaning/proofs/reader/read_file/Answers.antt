@@ -1,4 +1,4 @@
-use Rattle.std.proofs.result.Match.{err_is}
+use Rattle.ta_meaning.proofs.Common.{err_is}
 use Rattle.ta_meaning.proofs.OneReading.{meaning-fault, scope-fault, is-legal}
 use Rattle.ta_meaning.proofs.FileLimits.{legal_within}
 use Rattle.ta_meaning.proofs.reader.read_file.Goals as goal

@@ -1,6 +1,6 @@
 use Rattle.ta_meaning.proofs.Common.{◌≡◌, inr, ◌+◌, ◌^◌, ◌∷◌, List, drop, sym, ap, subst, ◌∙◌, rules, arith, pos, FitsSigned, w128, to_z-of_z, err_is}
-use Rattle.ta_meaning.proofs.Common.{drop_more, drop_of_length-le, Terms, plain_sum, plain_terms, Sign, TreeTerm, FileFault, sum_uses, linear_sum}
-use Rattle.ta_meaning.proofs.Common.{out-TreeTerm, FirstOrMemory, sum_faults, first_places, PartOf}
+use Rattle.ta_meaning.proofs.Common.{drop_more, drop_of_length-le, Terms, plain_sum, plain_terms, Sign, TreeTerm, FileFault, sum_uses, linear_sum, out-TreeTerm}
+use Rattle.ta_meaning.proofs.Common.{FirstOrMemory, sum_faults, first_places, PartOf}
 use Rattle.ta_syntax.proofs.PrintSteps.{plain_sum_out}
 use Rattle.ta_meaning.proofs.Answering.{judges-answer}
 use Rattle.ta_meaning.proofs.TreeSums.{terms_faults, sum_faults_out}

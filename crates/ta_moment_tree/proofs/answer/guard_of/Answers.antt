@@ -1,12 +1,8 @@
-use Rattle.std.proofs.Common.{◌≡◌, ℕ, Bool, ◌+◌, ◌<◌, length, slice_get, arith, ap, sym, ◌∙◌}
-use Rattle.std.proofs.lemmas.Option.{slice_get_past}
-use Rattle.std.specs.Prelude.{filter}
-use Rattle.std.specs.List.{range_with_len}
-use Rattle.ta_base.proofs.Ranges.{count_none, count_one}
-use Rattle.ta_moments.specs.Facts.{guards_of, has_guard}
+use Rattle.ta_moment_tree.proofs.Common.{◌≡◌, ℕ, Bool, ◌+◌, ◌<◌, length, slice_get, arith, ap, sym, ◌∙◌, slice_get_past, filter, range_with_len, count_none}
+use Rattle.ta_moment_tree.proofs.Common.{count_one, guards_of, has_guard}
 use Rattle.ta_moment_tree.proofs.Passed.{passed_at}
-use Rattle.ta_moment_tree.proofs.answer.guard_of.Goals as goal
 use Rattle.ta_moment_tree.proofs.answer.guard_of.Goals.{then-has_guard+else-passed-number, else-has_guard}
+use Rattle.ta_moment_tree.proofs.answer.guard_of.Goals as goal
 
 pub returns-then-passed-number : goal.returns-then-passed-number
 returns-then-passed-number c =

@@ -1,7 +1,4 @@
-use Rattle.std.proofs.Common.{◌≡◌, ◌≤◌, length, slice_get}
-use Rattle.std.specs.Prelude.{filter}
-use Rattle.std.specs.List.{range_with_len}
-use Rattle.ta_moments.specs.Facts.{has_guard}
+use Rattle.ta_moment_tree.proofs.Common.{◌≡◌, ◌≤◌, length, slice_get, filter, range_with_len, has_guard}
 use Rattle.ta_moment_tree.proofs.answer.guard_of.Given as goal
 
 abbrev pub invariant-loop-guard : goal.invariant-loop-guard

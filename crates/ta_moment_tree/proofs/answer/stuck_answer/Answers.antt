@@ -1,8 +1,4 @@
-use Rattle.std.proofs.Common.{◌-◌, map, slice_get, ap, sym, ◌∙◌}
-use Rattle.std.specs.Option.{option_map}
-use Rattle.std.proofs.lemmas.Option.{slice_get-map}
-use Rattle.ta_moments.specs.declared.fact.Fact.TheVariants.{Vacant, Fails}
-use Rattle.ta_moments.specs.Facts.{guards_of}
+use Rattle.ta_moment_tree.proofs.Common.{◌-◌, map, slice_get, ap, sym, ◌∙◌, option_map, slice_get-map, Vacant, Fails, guards_of}
 use Rattle.ta_moment_tree.proofs.Passed.{behind_first}
 use Rattle.ta_moment_tree.proofs.answer.stuck_answer.Goals as goal
 

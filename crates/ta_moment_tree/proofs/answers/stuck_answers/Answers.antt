@@ -1,9 +1,6 @@
-use Rattle.ta_moment_tree.proofs.Common.{ℕ, Bool, List, ◌++◌, ◌∷◌, [], slice_get, sym, ap, ◌∙◌, passed_none, passed_one}
-use Rattle.ta_moments.specs.Facts.{has_guard}
-use Rattle.ta_moments.specs.declared.fact.Fact.{Fact}
-use Rattle.ta_moments.specs.declared.fact.Fact.TheVariants.{Vacant, Fails}
-use Rattle.ta_moment_tree.proofs.answers.stuck_answers.Goals as goal
+use Rattle.ta_moment_tree.proofs.Common.{ℕ, Bool, List, ◌++◌, ◌∷◌, [], slice_get, sym, ap, ◌∙◌, passed_none, passed_one, has_guard, Fact, Vacant, Fails}
 use Rattle.ta_moment_tree.proofs.answers.stuck_answers.Goals.{then-has_guard+in_ok-push-2, else-has_guard}
+use Rattle.ta_moment_tree.proofs.answers.stuck_answers.Goals as goal
 
 pub loop-guard-preserved : goal.loop-guard-preserved
 loop-guard-preserved c =

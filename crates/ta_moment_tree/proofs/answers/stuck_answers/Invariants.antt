@@ -1,8 +1,4 @@
-use Rattle.std.proofs.Common.{◌≡◌, ◌∷◌, map, slice_get}
-use Rattle.std.specs.Prelude.{filter}
-use Rattle.std.specs.List.{range_with_len}
-use Rattle.ta_moments.specs.Facts.{has_guard}
-use Rattle.ta_moments.specs.declared.fact.Fact.TheVariants.{Vacant, Fails}
+use Rattle.ta_moment_tree.proofs.Common.{◌≡◌, ◌∷◌, map, slice_get, filter, range_with_len, has_guard, Vacant, Fails}
 use Rattle.ta_moment_tree.proofs.answers.stuck_answers.Given as goal
 
 abbrev pub invariant-loop-guard : goal.invariant-loop-guard

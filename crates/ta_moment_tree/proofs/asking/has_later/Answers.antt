@@ -1,7 +1,5 @@
-use Rattle.ta_moment_tree.proofs.Common.{ℕ, Bool, ◌<◌, ◌||◌, length, slice_get, arith, sym, ap, ◌∙◌}
-use Rattle.ta_base.proofs.Bits.{any_below-at, any_below-next, any_below-none}
-use Rattle.ta_base.specs.Masks.{any_below}
-use Rattle.ta_moments.specs.Facts.{comes_after}
+use Rattle.ta_moment_tree.proofs.Common.{ℕ, Bool, ◌<◌, ◌||◌, length, slice_get, arith, sym, ap, ◌∙◌, any_below-at, any_below, comes_after}
+use Rattle.ta_base.proofs.Bits.{any_below-next, any_below-none}
 use Rattle.ta_moment_tree.proofs.asking.has_later.Goals as goal
 
 pub loop-other-init : goal.loop-other-init

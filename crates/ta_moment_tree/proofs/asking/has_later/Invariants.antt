@@ -1,6 +1,4 @@
-use Rattle.std.proofs.Common.{◌≡◌, false, slice_get}
-use Rattle.ta_base.specs.Masks.{any_below}
-use Rattle.ta_moments.specs.Facts.{comes_after}
+use Rattle.ta_moment_tree.proofs.Common.{◌≡◌, false, slice_get, any_below, comes_after}
 use Rattle.ta_moment_tree.proofs.asking.has_later.Given as goal
 
 abbrev pub invariant-loop-other : goal.invariant-loop-other

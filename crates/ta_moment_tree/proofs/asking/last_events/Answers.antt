@@ -1,7 +1,6 @@
-use Rattle.ta_moment_tree.proofs.Common.{ℕ, Bool, List, Option, Some, ◌++◌, ◌∷◌, [], not, sym, ap, ◌∙◌, passed_none, passed_one}
-use Rattle.ta_moments.specs.Facts.{has_later}
-use Rattle.ta_moment_tree.proofs.asking.last_events.Goals as goal
+use Rattle.ta_moment_tree.proofs.Common.{ℕ, Bool, List, Option, Some, ◌++◌, ◌∷◌, [], not, sym, ap, ◌∙◌, passed_none, passed_one, has_later}
 use Rattle.ta_moment_tree.proofs.asking.last_events.Goals.{then-not-has_later+in_ok-push, else-not-has_later}
+use Rattle.ta_moment_tree.proofs.asking.last_events.Goals as goal
 
 pub loop-event-preserved : goal.loop-event-preserved
 loop-event-preserved c =

@@ -1,7 +1,4 @@
-use Rattle.std.proofs.Common.{◌≡◌, Some, map, not}
-use Rattle.std.specs.Prelude.{filter}
-use Rattle.std.specs.List.{range_with_len}
-use Rattle.ta_moments.specs.Facts.{has_later}
+use Rattle.ta_moment_tree.proofs.Common.{◌≡◌, Some, map, not, filter, range_with_len, has_later}
 use Rattle.ta_moment_tree.proofs.asking.last_events.Given as goal
 
 abbrev pub invariant-loop-event : goal.invariant-loop-event

@@ -1,7 +1,6 @@
 use Rattle.ta_moment_tree.proofs.Common.{◌≡◌, ◌&&◌, not, false, List, length, refl, arith, nat_tests, slice_get, slice_get_read, Some, has_bit, subst, sym, ap}
-use Rattle.ta_moment_tree.proofs.Common.{◌∙◌, Rule}
+use Rattle.ta_moment_tree.proofs.Common.{◌∙◌, Rule, may_be_stuck}
 use Rattle.std.specs.Prelude.{nat_eq}
-use Rattle.ta_moments.specs.Facts.{may_be_stuck}
 use Rattle.ta_moment_tree.proofs.asking.may_be_stuck.Goals as goal
 
 pub returns-else-source-rule : goal.returns-else-source-rule

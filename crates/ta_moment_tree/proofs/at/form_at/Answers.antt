@@ -1,7 +1,6 @@
 use Rattle.ta_moment_tree.proofs.Common.{◌≡◌, ◌∙◌, ℤ, pos, ◌+◌, ◌*◌, ◌≤◌, ◌^◌, arith, sym, ap, subst, get_or, to_z, of_z, w128, to_z_abs, unsigned_abs}
-use Rattle.ta_moments.specs.Forms.{UnknownForm, number_form, plus_form, times_form, terms_form}
-use Rattle.ta_moments.specs.Moments.{place_form}
-use Rattle.ta_moment_tree.specs.Forms.{SmallBy, form_of, vector_of}
+use Rattle.ta_moment_tree.proofs.Common.{UnknownForm, number_form, plus_form, times_form, place_form, SmallBy, form_of, vector_of}
+use Rattle.ta_moments.specs.Forms.{terms_form}
 use Rattle.ta_moment_tree.proofs.Forms.{number_is, small_more, small_number, small_plus}
 use Rattle.ta_moment_tree.proofs.Sums.{factor_small, terms_more, terms_all}
 use Rattle.ta_moment_tree.proofs.at.form_at.Goals as goal

@@ -1,7 +1,5 @@
-use Rattle.std.proofs.Common.{◌≡◌, ◌+◌, ◌*◌, drop}
-use Rattle.ta_moments.specs.Forms.{number_form, plus_form, terms_form}
-use Rattle.ta_moments.specs.Moments.{place_form}
-use Rattle.ta_moment_tree.specs.Forms.{SmallBy, form_of, vector_of}
+use Rattle.ta_moment_tree.proofs.Common.{◌≡◌, ◌+◌, ◌*◌, drop, number_form, plus_form, place_form, SmallBy, form_of, vector_of}
+use Rattle.ta_moments.specs.Forms.{terms_form}
 use Rattle.ta_moment_tree.proofs.at.form_at.Given as goal
 
 abbrev pub invariant-loop-place : goal.invariant-loop-place

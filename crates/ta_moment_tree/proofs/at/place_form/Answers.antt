@@ -1,7 +1,6 @@
-use Rattle.ta_moment_tree.proofs.Common.{◌∙◌, ℕ, ◌+◌, ◌*◌, ◌^◌, arith, sym, ap, subst, List, length, slice_get, rule_change}
-use Rattle.ta_moments.specs.Forms.{UnknownForm, plus_form, times_form, sum_form}
-use Rattle.ta_moments.specs.Moments.{start_form}
-use Rattle.ta_moment_tree.specs.Forms.{SmallBy, form_of, vector_of}
+use Rattle.ta_moment_tree.proofs.Common.{◌∙◌, ℕ, ◌+◌, ◌*◌, ◌^◌, arith, sym, ap, subst, List, length, slice_get, rule_change, UnknownForm, plus_form, times_form}
+use Rattle.ta_moment_tree.proofs.Common.{start_form, SmallBy, form_of, vector_of}
+use Rattle.ta_moments.specs.Forms.{sum_form}
 use Rattle.ta_moment_tree.proofs.Forms.{small_more}
 use Rattle.ta_moment_tree.proofs.Starts.{start_small, moving_few}
 use Rattle.ta_moment_tree.proofs.Sums.{sum_more, sum_all}

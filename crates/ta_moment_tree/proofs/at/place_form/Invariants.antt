@@ -1,8 +1,5 @@
-use Rattle.std.proofs.Common.{◌≡◌, ◌+◌, ◌*◌, drop, slice_get}
-use Rattle.ta_automaton.specs.Places.{rule_change}
-use Rattle.ta_moments.specs.Forms.{plus_form, sum_form, times_form}
-use Rattle.ta_moments.specs.Moments.{start_form}
-use Rattle.ta_moment_tree.specs.Forms.{SmallBy, form_of, vector_of}
+use Rattle.ta_moment_tree.proofs.Common.{◌≡◌, ◌+◌, ◌*◌, drop, slice_get, rule_change, plus_form, times_form, start_form, SmallBy, form_of, vector_of}
+use Rattle.ta_moments.specs.Forms.{sum_form}
 use Rattle.ta_moment_tree.proofs.at.place_form.Given as goal
 
 abbrev pub invariant-loop-rule : goal.invariant-loop-rule

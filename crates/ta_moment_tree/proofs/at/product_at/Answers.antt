@@ -1,6 +1,4 @@
-use Rattle.ta_moment_tree.proofs.Common.{◌≡◌, ◌∙◌, ℤ, ◌*◌, ◌≤◌, ◌^◌, arith, sym, ap, subst, to_z_abs, unsigned_abs}
-use Rattle.ta_moments.specs.Forms.{UnknownForm, times_form}
-use Rattle.ta_moment_tree.specs.Forms.{SmallBy, form_of}
+use Rattle.ta_moment_tree.proofs.Common.{◌≡◌, ◌∙◌, ℤ, ◌*◌, ◌≤◌, ◌^◌, arith, sym, ap, subst, to_z_abs, unsigned_abs, UnknownForm, times_form, SmallBy, form_of}
 use Rattle.ta_moment_tree.proofs.Forms.{small_more, small_times}
 use Rattle.ta_moment_tree.proofs.at.product_at.Goals as goal
 

@@ -1,11 +1,10 @@
 use Rattle.ta_moment_tree.proofs.Common.{◌≡◌, ◌+◌, ◌≤◌, ◌^◌, ◌++◌, ◌∷◌, [], List, map, pos, length, arith, sym, ap, ◌∙◌, subst, refl, is_none, not_none}
 use Rattle.ta_moment_tree.proofs.Common.{to_z_range, InRange, IsNormal, coefficient, IsNormal-higher, slice_index_or, Meaning, Parameter, place_coefficient}
-use Rattle.ta_encode.specs.Inside.Sparse.{Sparse}
+use Rattle.ta_moment_tree.proofs.Common.{Sparse, start_few}
 use Rattle.ta_encode.proofs.Sparse.{sparse_push, sparse_skip, sparse_all}
 use Rattle.ta_moment_tree.proofs.Forms.{form_same}
-use Rattle.ta_encode.proofs.Drafts.{start_few}
-use Rattle.ta_moment_tree.proofs.at.start_form.Goals as goal
 use Rattle.ta_moment_tree.proofs.at.start_form.Goals.{then-coefficient-ne0+in_ok-push, else-coefficient-ne0}
+use Rattle.ta_moment_tree.proofs.at.start_form.Goals as goal
 
 pub invariant_of-result : goal.invariant_of-result
 invariant_of-result c =

@@ -1,5 +1,4 @@
-use Rattle.ta_moment_tree.proofs.Common.{Meaning, place_coefficient}
-use Rattle.ta_encode.specs.Inside.Sparse.{Sparse}
+use Rattle.ta_moment_tree.proofs.Common.{Meaning, place_coefficient, Sparse}
 use Rattle.ta_moment_tree.proofs.at.start_form.Given as goal
 
 abbrev pub invariant-loop-unknown : goal.invariant-loop-unknown

@@ -1,6 +1,5 @@
-use Rattle.ta_moment_tree.proofs.Common.{◌≡◌, ◌∙◌, ℤ, pos, ◌+◌, arith, sym, ap, subst, is_none, to_z_abs, slice_get, rule_change}
-use Rattle.ta_moments.specs.Forms.{UnknownForm, plus_form, times_form}
-use Rattle.ta_moment_tree.specs.Forms.{SmallBy, form_of, vector_of}
+use Rattle.ta_moment_tree.proofs.Common.{◌≡◌, ◌∙◌, ℤ, pos, ◌+◌, arith, sym, ap, subst, is_none, to_z_abs, slice_get, rule_change, UnknownForm, plus_form}
+use Rattle.ta_moment_tree.proofs.Common.{times_form, SmallBy, form_of, vector_of}
 use Rattle.ta_moment_tree.proofs.Forms.{small_more, small_plus, small_times}
 use Rattle.ta_moment_tree.proofs.Sums.{plus_none, times_none}
 use Rattle.ta_moment_tree.proofs.at.with_change.Goals as goal

@@ -1,8 +1,4 @@
-use Rattle.std.proofs.Common.{◌≡◌, ◌+◌, ℕ, Bool, not, length, slice_get, arith, ap, refl, ◌∙◌}
-use Rattle.std.specs.Prelude.{filter}
-use Rattle.ta_moments.specs.declared.fact.Fact.{Fact}
-use Rattle.ta_moments.specs.Facts.{has_guard, moving_rules}
-use Rattle.ta_moments.specs.Moments.{with_fact}
+use Rattle.ta_moment_tree.proofs.Common.{◌≡◌, ◌+◌, ℕ, Bool, not, length, slice_get, arith, ap, refl, ◌∙◌, filter, Fact, has_guard, moving_rules, with_fact}
 use Rattle.std.proofs.lemmas.List.Filters.{length-filter_both}
 use Rattle.ta_moment_tree.proofs.count.added_count.Goals as goal
 

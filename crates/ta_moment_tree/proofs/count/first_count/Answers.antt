@@ -1,9 +1,8 @@
-use Rattle.std.proofs.Common.{◌≡◌, ◌+◌, ◌*◌, ◌<◌, ◌≤◌, ◌^◌, length, arith, ap, refl, ◌∙◌}
+use Rattle.ta_moment_tree.proofs.Common.{◌≡◌, ◌+◌, ◌*◌, ◌<◌, ◌≤◌, ◌^◌, length, arith, ap, refl, ◌∙◌, moving_rules}
 use Rattle.ta_encode.specs.Unknowns.{start_meanings}
-use Rattle.ta_moments.specs.Facts.{moving_rules}
 use Rattle.ta_moment_tree.proofs.Beginning.{count_room}
-use Rattle.ta_moment_tree.proofs.count.first_count.Goals as goal
 use Rattle.ta_moment_tree.proofs.count.first_count.Goals.{After-moving_count}
+use Rattle.ta_moment_tree.proofs.count.first_count.Goals as goal
 
 value : (c : After-moving_count) → c.start_count-starts.result + length c.as_slice.result.now * c.moving_count.result ≡ length
     (start_meanings c.args.task.automaton.now c.args.task.pattern.now) + length c.args.task.pattern.now.events * length

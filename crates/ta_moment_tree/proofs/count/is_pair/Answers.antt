@@ -1,9 +1,7 @@
-use Rattle.std.proofs.Common.{◌+◌, List, length, slice_get, arith, ap, sym, ◌∙◌}
-use Rattle.ta_moments.specs.Moments.{Moment}
-use Rattle.ta_moment_tree.specs.Counts.{is_pair_in}
+use Rattle.ta_moment_tree.proofs.Common.{◌+◌, List, length, slice_get, arith, ap, sym, ◌∙◌, Moment, is_pair_in}
 use Rattle.ta_moment_tree.proofs.Counting.{counts_one, moment_pushed, moments_at_first, moments_kept, no_pair_first, pair_added, pair_later, pair_other}
-use Rattle.ta_moment_tree.proofs.count.is_pair.Goals as goal
 use Rattle.ta_moment_tree.proofs.count.is_pair.Goals.{then-not-is_plain+else-count-moment, else-not-is_plain}
+use Rattle.ta_moment_tree.proofs.count.is_pair.Goals as goal
 
 pub loop-fact-init : goal.loop-fact-init
 loop-fact-init c = record {

@@ -1,7 +1,5 @@
-use Rattle.std.proofs.Common.{◌≡◌, ◌≤◌, ◌+◌, ℕ, List, Option, false, length, reverse, slice_get, take}
-use Rattle.ta_automaton.specs.declared.automaton.Automaton.{Automaton}
+use Rattle.ta_moment_tree.proofs.Common.{◌≡◌, ◌≤◌, ◌+◌, ℕ, List, Option, false, length, reverse, slice_get, take, Automaton, is_pair_in}
 use Rattle.ta_moments.specs.Moments.{known}
-use Rattle.ta_moment_tree.specs.Counts.{is_pair_in}
 use Rattle.ta_moment_tree.proofs.count.is_pair.Given as goal
 
 abbrev pub invariant-loop-fact : goal.invariant-loop-fact

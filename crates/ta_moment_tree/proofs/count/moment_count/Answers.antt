@@ -1,7 +1,7 @@
-use Rattle.std.proofs.Common.{◌+◌, length, arith, ap, sym, ◌∙◌}
+use Rattle.ta_moment_tree.proofs.Common.{◌+◌, length, arith, ap, sym, ◌∙◌}
 use Rattle.ta_moment_tree.proofs.Counting.{moments_at_first, moments_kept, moment_pushed, counts_one}
-use Rattle.ta_moment_tree.proofs.count.moment_count.Goals as goal
 use Rattle.ta_moment_tree.proofs.count.moment_count.Goals.{then-not-is_plain, else-not-is_plain}
+use Rattle.ta_moment_tree.proofs.count.moment_count.Goals as goal
 
 pub loop-fact-init : goal.loop-fact-init
 loop-fact-init c = record {

@@ -1,5 +1,4 @@
-use Rattle.std.proofs.Common.{◌≡◌, ◌≤◌, ◌+◌, ℕ, List, Option, length, reverse, take}
-use Rattle.ta_automaton.specs.declared.automaton.Automaton.{Automaton}
+use Rattle.ta_moment_tree.proofs.Common.{◌≡◌, ◌≤◌, ◌+◌, ℕ, List, Option, length, reverse, take, Automaton}
 use Rattle.ta_moments.specs.Moments.{known}
 use Rattle.ta_moment_tree.proofs.count.moment_count.Given as goal
 

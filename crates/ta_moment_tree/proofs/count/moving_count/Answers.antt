@@ -1,8 +1,6 @@
-use Rattle.std.proofs.Common.{ℕ, Bool, ◌+◌, ◌<◌, ◌^◌, length, slice_get, arith, ap, sym, ◌∙◌}
-use Rattle.ta_base.proofs.Ranges.{count_few, count_none, count_one}
-use Rattle.ta_moments.specs.Facts.{is_moving}
-use Rattle.ta_moment_tree.proofs.count.moving_count.Goals as goal
+use Rattle.ta_moment_tree.proofs.Common.{ℕ, Bool, ◌+◌, ◌<◌, ◌^◌, length, slice_get, arith, ap, sym, ◌∙◌, count_few, count_none, count_one, is_moving}
 use Rattle.ta_moment_tree.proofs.count.moving_count.Goals.{then-is_moving, else-is_moving}
+use Rattle.ta_moment_tree.proofs.count.moving_count.Goals as goal
 
 pub overflow_add-count : goal.overflow_add-count
 overflow_add-count c =

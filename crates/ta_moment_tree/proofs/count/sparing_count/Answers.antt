@@ -1,13 +1,9 @@
-use Rattle.std.proofs.Common.{◌≡◌, ℕ, Bool, ◌&&◌, not, ◌+◌, ◌<◌, ◌^◌, length, slice_get, arith, ap, sym, ◌∙◌}
-use Rattle.std.specs.Prelude.{filter}
-use Rattle.std.specs.List.{range_with_len}
-use Rattle.std.proofs.lemmas.Bool.{and_from}
-use Rattle.ta_base.proofs.Ranges.{count_few, count_none, count_one}
-use Rattle.ta_moments.specs.Facts.{has_guard, is_moving}
+use Rattle.ta_moment_tree.proofs.Common.{◌≡◌, ℕ, Bool, ◌&&◌, not, ◌+◌, ◌<◌, ◌^◌, length, slice_get, arith, ap, sym, ◌∙◌, filter, range_with_len, and_from}
+use Rattle.ta_moment_tree.proofs.Common.{count_few, count_none, count_one, has_guard, is_moving}
 use Rattle.ta_moment_tree.proofs.Passed.{filter_twice, and_never, never_and}
-use Rattle.ta_moment_tree.proofs.count.sparing_count.Goals as goal
 use Rattle.ta_moment_tree.proofs.count.sparing_count.Goals.{then-is_moving+then-not-has_guard, else-is_moving}
 use Rattle.ta_moment_tree.proofs.count.sparing_count.Goals.{else-is_moving-via-then-is_moving+else-not-has_guard, else-is_moving-via-else-is_moving}
+use Rattle.ta_moment_tree.proofs.count.sparing_count.Goals as goal
 
 pub overflow_add-count : goal.overflow_add-count
 overflow_add-count c =

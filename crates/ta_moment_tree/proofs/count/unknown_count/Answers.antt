@@ -1,10 +1,9 @@
-use Rattle.std.proofs.Common.{◌≡◌, ℕ, ◌+◌, ◌<◌, ◌^◌, List, [], Option, None, reverse, take, arith, ap, sym, ◌∙◌}
-use Rattle.ta_base.proofs.Lists.{reverse_more}
-use Rattle.ta_moments.specs.declared.fact.Fact.{Fact}
-use Rattle.ta_moments.specs.Moments.{Known, end_vector, known}
+use Rattle.ta_moment_tree.proofs.Common.{◌≡◌, ℕ, ◌+◌, ◌<◌, ◌^◌, List, [], Option, None, reverse, take, arith, ap, sym, ◌∙◌, reverse_more, Fact, Known}
+use Rattle.ta_moment_tree.proofs.Common.{end_vector}
+use Rattle.ta_moments.specs.Moments.{known}
 use Rattle.ta_moment_tree.proofs.Counting.{fewer_first, known_first, known_more}
-use Rattle.ta_moment_tree.proofs.count.unknown_count.Goals as goal
 use Rattle.ta_moment_tree.proofs.count.unknown_count.Goals.{After-added_count-count}
+use Rattle.ta_moment_tree.proofs.count.unknown_count.Goals as goal
 
 pub loop-fact-init : goal.loop-fact-init
 loop-fact-init c silent candidate = c.first_count-count.ensures.value

@@ -1,4 +1,4 @@
-use Rattle.std.proofs.Common.{◌≡◌, ℕ, List, Option, reverse, take}
+use Rattle.ta_moment_tree.proofs.Common.{◌≡◌, ℕ, List, Option, reverse, take}
 use Rattle.ta_moments.specs.Moments.{known}
 use Rattle.ta_moment_tree.proofs.count.unknown_count.Given as goal
 

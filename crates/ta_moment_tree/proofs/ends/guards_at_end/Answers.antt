@@ -1,8 +1,4 @@
-use Rattle.ta_moment_tree.proofs.Common.{◌≡◌, ◌∙◌, arith, ap, length, map, range_with_len}
-use Rattle.ta_moments.specs.Moments.{guards}
-use Rattle.ta_moments.specs.Questions.{guard_at_end}
-use Rattle.ta_moment_tree.specs.Forms.{vector_of}
-use Rattle.ta_moment_tree.specs.Parts.{guard_of}
+use Rattle.ta_moment_tree.proofs.Common.{◌≡◌, ◌∙◌, arith, ap, length, map, range_with_len, guards, guard_at_end, vector_of, guard_of}
 use Rattle.ta_moment_tree.proofs.Lists.{map_numbers, mapped_more}
 use Rattle.ta_moment_tree.proofs.ends.guards_at_end.Goals as goal
 

@@ -1,8 +1,4 @@
-use Rattle.std.proofs.Common.{◌≡◌, map}
-use Rattle.std.specs.List.{range_with_len}
-use Rattle.ta_moments.specs.Questions.{guard_at_end}
-use Rattle.ta_moment_tree.specs.Forms.{vector_of}
-use Rattle.ta_moment_tree.specs.Parts.{guard_of}
+use Rattle.ta_moment_tree.proofs.Common.{◌≡◌, map, range_with_len, guard_at_end, vector_of, guard_of}
 use Rattle.ta_moment_tree.proofs.ends.guards_at_end.Given as goal
 
 abbrev pub invariant-loop-guard : goal.invariant-loop-guard

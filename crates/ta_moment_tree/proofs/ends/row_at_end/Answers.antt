@@ -1,5 +1,4 @@
-use Rattle.ta_moment_tree.proofs.Common.{ℕ, ℤ, ◌∙◌, List, ap, sym, subst, SmallTerms}
-use Rattle.std.specs.Prelude.{option_copied}
+use Rattle.ta_moment_tree.proofs.Common.{ℕ, ℤ, ◌∙◌, List, ap, sym, subst, SmallTerms, option_copied}
 use Rattle.ta_moment_tree.proofs.Smallness.{guard_small}
 use Rattle.ta_moment_tree.proofs.ends.row_at_end.Goals as goal
 

@@ -1,13 +1,8 @@
-use Rattle.ta_moment_tree.proofs.Common.{ℕ, Bool, List, ◌≡◌, ◌∙◌, ◌+◌, ◌++◌, ◌∷◌, [], arith, ap, sym, length, slice_get, range_with_len}
-use Rattle.std.specs.Prelude.{filter, flat_map}
-use Rattle.std.proofs.lemmas.List.{map-append}
-use Rattle.ta_moments.specs.Facts.{has_guard}
-use Rattle.ta_moments.specs.Forms.{UnknownForm}
-use Rattle.ta_moments.specs.Moments.{guards, quiet_at}
-use Rattle.ta_moment_tree.specs.Forms.{all_forms, form_of, vector_of}
+use Rattle.ta_moment_tree.proofs.Common.{ℕ, Bool, List, ◌≡◌, ◌∙◌, ◌+◌, ◌++◌, ◌∷◌, [], arith, ap, sym, length, slice_get, range_with_len, filter, flat_map}
+use Rattle.ta_moment_tree.proofs.Common.{map-append, has_guard, UnknownForm, guards, quiet_at, all_forms, form_of, vector_of}
 use Rattle.ta_moment_tree.proofs.Lists.{flat_kept, flat_left}
-use Rattle.ta_moment_tree.proofs.ends.rows_at_end.Goals as goal
 use Rattle.ta_moment_tree.proofs.ends.rows_at_end.Goals.{then-has_guard+in_ok-row+in_ok-push, else-has_guard}
+use Rattle.ta_moment_tree.proofs.ends.rows_at_end.Goals as goal
 
 pub loop-guard-preserved : goal.loop-guard-preserved
 loop-guard-preserved c =

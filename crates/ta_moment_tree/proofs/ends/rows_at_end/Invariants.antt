@@ -1,9 +1,4 @@
-use Rattle.std.proofs.Common.{◌≡◌, slice_get}
-use Rattle.std.specs.Prelude.{filter, flat_map}
-use Rattle.std.specs.List.{range_with_len}
-use Rattle.ta_moments.specs.Facts.{has_guard}
-use Rattle.ta_moments.specs.Moments.{guards, quiet_at}
-use Rattle.ta_moment_tree.specs.Forms.{all_forms, vector_of}
+use Rattle.ta_moment_tree.proofs.Common.{◌≡◌, slice_get, filter, flat_map, range_with_len, has_guard, guards, quiet_at, all_forms, vector_of}
 use Rattle.ta_moment_tree.proofs.ends.rows_at_end.Given as goal
 
 abbrev pub invariant-loop-guard : goal.invariant-loop-guard

@@ -1,13 +1,8 @@
-use Rattle.ta_moment_tree.proofs.Common.{ℕ, Bool, List, ◌≡◌, ◌∙◌, arith, ap, sym, length, map, slice_get, passed_none, passed_one, range_with_len}
-use Rattle.std.specs.Prelude.{filter}
-use Rattle.ta_automaton.specs.declared.rule.Rule.{Rule}
-use Rattle.ta_moments.specs.Facts.{may_be_stuck}
-use Rattle.ta_moments.specs.Questions.{rule_at_end}
-use Rattle.ta_moment_tree.specs.Forms.{vector_of}
-use Rattle.ta_moment_tree.specs.Parts.{rule_of}
+use Rattle.ta_moment_tree.proofs.Common.{ℕ, Bool, List, ◌≡◌, ◌∙◌, arith, ap, sym, length, map, slice_get, passed_none, passed_one, range_with_len, filter, Rule}
+use Rattle.ta_moment_tree.proofs.Common.{may_be_stuck, rule_at_end, vector_of, rule_of}
 use Rattle.ta_moment_tree.proofs.Lists.{mapped_more}
-use Rattle.ta_moment_tree.proofs.ends.rules_at_end.Goals as goal
 use Rattle.ta_moment_tree.proofs.ends.rules_at_end.Goals.{then-may_be_stuck+in_ok-is+in_ok-push, else-may_be_stuck}
+use Rattle.ta_moment_tree.proofs.ends.rules_at_end.Goals as goal
 
 pub loop-rule-preserved : goal.loop-rule-preserved
 loop-rule-preserved c =

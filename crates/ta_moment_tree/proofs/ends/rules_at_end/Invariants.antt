@@ -1,10 +1,4 @@
-use Rattle.std.proofs.Common.{◌≡◌, map, slice_get}
-use Rattle.std.specs.Prelude.{filter}
-use Rattle.std.specs.List.{range_with_len}
-use Rattle.ta_moments.specs.Facts.{may_be_stuck}
-use Rattle.ta_moments.specs.Questions.{rule_at_end}
-use Rattle.ta_moment_tree.specs.Forms.{vector_of}
-use Rattle.ta_moment_tree.specs.Parts.{rule_of}
+use Rattle.ta_moment_tree.proofs.Common.{◌≡◌, map, slice_get, filter, range_with_len, may_be_stuck, rule_at_end, vector_of, rule_of}
 use Rattle.ta_moment_tree.proofs.ends.rules_at_end.Given as goal
 
 abbrev pub invariant-loop-rule : goal.invariant-loop-rule

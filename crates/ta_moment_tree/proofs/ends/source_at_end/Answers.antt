@@ -1,9 +1,5 @@
-use Rattle.ta_moment_tree.proofs.Common.{◌≡◌, ◌∙◌, ◌+◌, ◌∷◌, [], List, Option, Some, length, slice_get, ap, sym, subst, refl}
-use Rattle.std.proofs.lemmas.Option.{slice_get_read}
-use Rattle.ta_automaton.specs.declared.rule.Rule.{Rule}
-use Rattle.ta_moments.specs.Forms.{UnknownForm}
-use Rattle.ta_moments.specs.Moments.{place_form, source_at}
-use Rattle.ta_moment_tree.specs.Forms.{vector_of}
+use Rattle.ta_moment_tree.proofs.Common.{◌≡◌, ◌∙◌, ◌+◌, ◌∷◌, [], List, Option, Some, length, slice_get, ap, sym, subst, refl, slice_get_read, Rule, UnknownForm}
+use Rattle.ta_moment_tree.proofs.Common.{place_form, source_at, vector_of}
 use Rattle.ta_moment_tree.proofs.ends.source_at_end.Goals as goal
 
 pub returns : goal.returns

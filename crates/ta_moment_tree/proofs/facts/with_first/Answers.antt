@@ -1,10 +1,5 @@
-use Rattle.ta_moment_tree.proofs.Common.{◌+◌, length, arith, ap, sym, subst, refl}
-use Rattle.ta_moments.specs.Facts.{sparing}
-use Rattle.ta_moments.specs.declared.fact.Fact.TheVariants.{First}
-use Rattle.ta_moments.specs.Moments.{Point, Vector, first_vector, rows_of_first}
-use Rattle.ta_moments.proofs.Speaking.{VectorSpeaks}
-use Rattle.ta_moment_tree.specs.Forms.{SmallVector, vector_of}
-use Rattle.ta_moment_tree.specs.Rows.{AddsForms}
+use Rattle.ta_moment_tree.proofs.Common.{◌+◌, length, arith, ap, sym, subst, refl, sparing, First, Point, Vector, first_vector, rows_of_first, VectorSpeaks}
+use Rattle.ta_moment_tree.proofs.Common.{SmallVector, vector_of, AddsForms}
 use Rattle.ta_moment_tree.proofs.Beginning.{sparing_few}
 use Rattle.ta_moment_tree.proofs.AddedFacts.{moment_known}
 use Rattle.ta_moment_tree.proofs.facts.with_first.Goals as goal

@@ -1,10 +1,5 @@
-use Rattle.ta_moment_tree.proofs.Common.{◌∙◌, ◌+◌, length, arith, ap, sym, subst, refl}
-use Rattle.ta_moments.specs.Facts.{needing, sparing}
-use Rattle.ta_moments.specs.declared.fact.Fact.TheVariants.{Last}
-use Rattle.ta_moments.specs.Moments.{Pair, Vector, after_vector, before_vector, rows_of_last}
-use Rattle.ta_moments.proofs.Speaking.{VectorSpeaks}
-use Rattle.ta_moment_tree.specs.Forms.{SmallVector, vector_of}
-use Rattle.ta_moment_tree.specs.Rows.{AddsForms}
+use Rattle.ta_moment_tree.proofs.Common.{◌∙◌, ◌+◌, length, arith, ap, sym, subst, refl, needing, sparing, Last, Pair, Vector, after_vector, before_vector}
+use Rattle.ta_moment_tree.proofs.Common.{rows_of_last, VectorSpeaks, SmallVector, vector_of, AddsForms}
 use Rattle.ta_moment_tree.proofs.Beginning.{needing_few, sparing_few}
 use Rattle.ta_moment_tree.proofs.AddedFacts.{moment_known}
 use Rattle.ta_moment_tree.proofs.facts.with_last.Goals as goal

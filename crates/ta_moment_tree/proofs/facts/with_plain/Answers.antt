@@ -1,9 +1,5 @@
-use Rattle.ta_moment_tree.proofs.Common.{List, arith, ap, sym, subst, refl}
-use Rattle.ta_moments.specs.Moments.{Vector}
-use Rattle.ta_moment_tree.specs.Forms.{SmallVector, vector_of}
-use Rattle.ta_moment_tree.specs.Moments.{SmallMoments, MomentsSpeak, moments_of}
-use Rattle.ta_moment_tree.specs.Plain.{plain_rows}
-use Rattle.ta_moment_tree.specs.Rows.{AddsForms}
+use Rattle.ta_moment_tree.proofs.Common.{List, arith, ap, sym, subst, refl, Vector, SmallVector, vector_of, SmallMoments, MomentsSpeak, moments_of, plain_rows}
+use Rattle.ta_moment_tree.proofs.Common.{AddsForms}
 use Rattle.ta_moment_tree.specs.declared.moment.Moment.{Moment as Kept}
 use Rattle.ta_moment_tree.proofs.Beginning.{vector_more_small}
 use Rattle.ta_moment_tree.proofs.AddedFacts.{plain_known}

@@ -1,6 +1,4 @@
-use Rattle.ta_moment_tree.proofs.Common.{ℕ, Option, arith, subst, In}
-use Rattle.ta_moments.specs.Facts.{candidates}
-use Rattle.ta_moments.proofs.Speaking.{event_less}
+use Rattle.ta_moment_tree.proofs.Common.{ℕ, Option, arith, subst, In, candidates, event_less}
 use Rattle.ta_moment_tree.proofs.first.end_vector.Goals as goal
 
 pub event_vector-requires-clause-event : goal.event_vector-requires-clause-event

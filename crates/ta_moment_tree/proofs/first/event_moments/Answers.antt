@@ -1,6 +1,4 @@
-use Rattle.ta_moment_tree.proofs.Common.{ℕ, ◌∙◌, ap}
-use Rattle.ta_moments.specs.Moments.{Point, event_vector}
-use Rattle.ta_moment_tree.specs.Moments.{moments_of}
+use Rattle.ta_moment_tree.proofs.Common.{ℕ, ◌∙◌, ap, Point, event_vector, moments_of}
 use Rattle.ta_moment_tree.proofs.Beginning.{moments_more}
 use Rattle.ta_moment_tree.proofs.Lists.{map_numbers}
 use Rattle.ta_moment_tree.proofs.first.event_moments.Goals as goal

@@ -1,7 +1,4 @@
-use Rattle.std.proofs.Common.{◌≡◌, map}
-use Rattle.std.specs.List.{range_with_len}
-use Rattle.ta_moments.specs.Moments.{Point, event_vector}
-use Rattle.ta_moment_tree.specs.Moments.{moments_of}
+use Rattle.ta_moment_tree.proofs.Common.{◌≡◌, map, range_with_len, Point, event_vector, moments_of}
 use Rattle.ta_moment_tree.proofs.first.event_moments.Given as goal
 
 abbrev pub invariant-loop-event : goal.invariant-loop-event

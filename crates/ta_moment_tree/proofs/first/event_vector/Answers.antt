@@ -1,5 +1,4 @@
-use Rattle.ta_moment_tree.proofs.Common.{ℕ, ◌∙◌, ◌+◌, ◌*◌, List, length, arith, ap, Meaning}
-use Rattle.ta_automaton.specs.declared.rule.Rule.{Rule}
+use Rattle.ta_moment_tree.proofs.Common.{ℕ, ◌∙◌, ◌+◌, ◌*◌, List, length, arith, ap, Meaning, Rule}
 use Rattle.ta_encode.specs.Unknowns.{start_meanings}
 use Rattle.ta_moment_tree.proofs.Beginning.{event_is, event_room, moving_below_of, nothing_small}
 use Rattle.ta_moment_tree.proofs.first.event_vector.Goals as goal

@@ -1,7 +1,4 @@
-use Rattle.ta_moment_tree.proofs.Common.{◌∙◌, ◌++◌, length, range_with_len, ap}
-use Rattle.std.specs.Prelude.{flat_map}
-use Rattle.ta_moments.specs.Moments.{rows_of_after, rows_of_end, rows_of_event}
-use Rattle.ta_moment_tree.specs.Forms.{vector_of}
+use Rattle.ta_moment_tree.proofs.Common.{◌∙◌, ◌++◌, length, range_with_len, ap, flat_map, rows_of_after, rows_of_end, rows_of_event, vector_of}
 use Rattle.ta_moment_tree.proofs.Adding.{adds_forms}
 use Rattle.ta_moment_tree.proofs.Beginning.{first_known, moments_count}
 use Rattle.ta_moment_tree.proofs.first.first_draft.Goals as goal

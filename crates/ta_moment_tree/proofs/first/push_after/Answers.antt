@@ -1,5 +1,4 @@
-use Rattle.ta_moment_tree.proofs.Common.{◌∙◌, arith, ap}
-use Rattle.ta_moment_tree.specs.Forms.{vector_of}
+use Rattle.ta_moment_tree.proofs.Common.{◌∙◌, arith, ap, vector_of}
 use Rattle.ta_moment_tree.proofs.first.push_after.Goals as goal
 
 pub event_vector-requires-clause-event : goal.event_vector-requires-clause-event

@@ -1,7 +1,4 @@
-use Rattle.std.specs.Prelude.{flat_map}
-use Rattle.std.specs.List.{range_with_len}
-use Rattle.ta_moments.specs.Moments.{rows_of_after}
-use Rattle.ta_moment_tree.specs.Rows.{AddsForms}
+use Rattle.ta_moment_tree.proofs.Common.{flat_map, range_with_len, rows_of_after, AddsForms}
 use Rattle.ta_moment_tree.proofs.first.push_afters.Given as goal
 
 abbrev pub invariant-loop-event : goal.invariant-loop-event

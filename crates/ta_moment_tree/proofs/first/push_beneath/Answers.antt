@@ -1,8 +1,4 @@
-use Rattle.ta_moment_tree.proofs.Common.{◌∙◌, arith, ap, sym, subst}
-use Rattle.ta_moments.specs.Moments.{Vector, below, unknowns_at_first}
-use Rattle.ta_moments.proofs.Speaking.{VectorSpeaks}
-use Rattle.ta_moment_tree.specs.Forms.{SmallVector, vector_of}
-use Rattle.ta_moment_tree.specs.Rows.{AddsForms}
+use Rattle.ta_moment_tree.proofs.Common.{◌∙◌, arith, ap, sym, subst, Vector, below, unknowns_at_first, VectorSpeaks, SmallVector, vector_of, AddsForms}
 use Rattle.ta_moment_tree.proofs.Beginning.{event_small, event_speaks, vector_more_small}
 use Rattle.ta_moment_tree.proofs.first.push_beneath.Goals as goal
 

@@ -1,16 +1,10 @@
-use Rattle.ta_moment_tree.proofs.Common.{ℕ, ◌∙◌, ◌+◌, ◌++◌, List, filter, slice_get, range_with_len, arith, ap, sym, subst, Row}
-use Rattle.std.specs.Prelude.{flat_map}
-use Rattle.ta_moments.specs.Facts.{comes_after}
-use Rattle.ta_moments.specs.Forms.{UnknownForm}
-use Rattle.ta_moments.specs.Moments.{Vector, below, event_vector, unknowns_at_first}
-use Rattle.ta_moments.proofs.Speaking.{VectorSpeaks}
-use Rattle.ta_moment_tree.specs.Forms.{SmallVector}
-use Rattle.ta_moment_tree.specs.Rows.{AddsForms}
+use Rattle.ta_moment_tree.proofs.Common.{ℕ, ◌∙◌, ◌+◌, ◌++◌, List, filter, slice_get, range_with_len, arith, ap, sym, subst, Row, flat_map, comes_after}
+use Rattle.ta_moment_tree.proofs.Common.{UnknownForm, Vector, below, event_vector, unknowns_at_first, VectorSpeaks, SmallVector, AddsForms}
 use Rattle.ta_moment_tree.proofs.Adding.{adds_more, adds_same}
 use Rattle.ta_moment_tree.proofs.Beginning.{event_small, event_speaks, vector_more_small}
 use Rattle.ta_moment_tree.proofs.Lists.{flat_kept, flat_left}
-use Rattle.ta_moment_tree.proofs.first.push_earlier.Goals as goal
 use Rattle.ta_moment_tree.proofs.first.push_earlier.Goals.{then-comes_after+in_ok-push_beneath, else-comes_after}
+use Rattle.ta_moment_tree.proofs.first.push_earlier.Goals as goal
 
 pub push_beneath-requires-clause-event : goal.push_beneath-requires-clause-event
 push_beneath-requires-clause-event c =

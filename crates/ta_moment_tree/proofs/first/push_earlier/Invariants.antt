@@ -1,8 +1,4 @@
-use Rattle.std.specs.Prelude.{filter, flat_map, slice_get}
-use Rattle.std.specs.List.{range_with_len}
-use Rattle.ta_moments.specs.Facts.{comes_after}
-use Rattle.ta_moments.specs.Moments.{below, event_vector, unknowns_at_first}
-use Rattle.ta_moment_tree.specs.Rows.{AddsForms}
+use Rattle.ta_moment_tree.proofs.Common.{filter, flat_map, slice_get, range_with_len, comes_after, below, event_vector, unknowns_at_first, AddsForms}
 use Rattle.ta_moment_tree.proofs.first.push_earlier.Given as goal
 
 abbrev pub invariant-loop-other : goal.invariant-loop-other

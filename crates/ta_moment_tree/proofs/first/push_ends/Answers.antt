@@ -1,16 +1,10 @@
-use Rattle.ta_moment_tree.proofs.Common.{ℕ, ◌∙◌, ◌+◌, ◌++◌, List, length, filter, range_with_len, arith, ap, sym, subst, Row}
-use Rattle.std.specs.Prelude.{flat_map}
-use Rattle.ta_automaton.specs.declared.pattern.Event.{Event}
-use Rattle.ta_moments.specs.Forms.{UnknownForm}
-use Rattle.ta_moments.specs.Moments.{Vector, below, end_vector, event_vector, is_beside, unknowns_at_first}
-use Rattle.ta_moments.proofs.Speaking.{VectorSpeaks}
-use Rattle.ta_moment_tree.specs.Forms.{SmallVector}
-use Rattle.ta_moment_tree.specs.Rows.{AddsForms}
+use Rattle.ta_moment_tree.proofs.Common.{ℕ, ◌∙◌, ◌+◌, ◌++◌, List, length, filter, range_with_len, arith, ap, sym, subst, Row, flat_map, UnknownForm, Vector}
+use Rattle.ta_moment_tree.proofs.Common.{below, end_vector, event_vector, is_beside, unknowns_at_first, VectorSpeaks, SmallVector, AddsForms, Event}
 use Rattle.ta_moment_tree.proofs.Adding.{adds_more, adds_same}
 use Rattle.ta_moment_tree.proofs.Beginning.{end_small, end_speaks, vector_more_small}
 use Rattle.ta_moment_tree.proofs.Lists.{flat_kept, flat_left}
-use Rattle.ta_moment_tree.proofs.first.push_ends.Goals as goal
 use Rattle.ta_moment_tree.proofs.first.push_ends.Goals.{then-is_beside+in_ok-push_beneath, else-is_beside}
+use Rattle.ta_moment_tree.proofs.first.push_ends.Goals as goal
 
 pub push_beneath-requires-clause-event : goal.push_beneath-requires-clause-event
 push_beneath-requires-clause-event c =

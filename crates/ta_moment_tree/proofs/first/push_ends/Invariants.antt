@@ -1,7 +1,4 @@
-use Rattle.std.specs.Prelude.{filter, flat_map}
-use Rattle.std.specs.List.{range_with_len}
-use Rattle.ta_moments.specs.Moments.{below, end_vector, event_vector, is_beside, unknowns_at_first}
-use Rattle.ta_moment_tree.specs.Rows.{AddsForms}
+use Rattle.ta_moment_tree.proofs.Common.{filter, flat_map, range_with_len, below, end_vector, event_vector, is_beside, unknowns_at_first, AddsForms}
 use Rattle.ta_moment_tree.proofs.first.push_ends.Given as goal
 
 abbrev pub invariant-loop-event : goal.invariant-loop-event

@@ -1,4 +1,4 @@
-use Rattle.ta_moments.specs.Moments.{rows_of_event}
+use Rattle.ta_moment_tree.proofs.Common.{rows_of_event}
 use Rattle.ta_moment_tree.proofs.Adding.{adds_more}
 use Rattle.ta_moment_tree.proofs.Lists.{flat_numbers}
 use Rattle.ta_moment_tree.proofs.first.push_events.Goals as goal

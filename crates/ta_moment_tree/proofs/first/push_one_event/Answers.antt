@@ -1,7 +1,4 @@
-use Rattle.ta_moment_tree.proofs.Common.{◌∙◌, slice_get, arith, ap, sym, subst}
-use Rattle.ta_moments.specs.Moments.{Vector, counters_at, event_at}
-use Rattle.ta_moment_tree.specs.Forms.{SmallVector, vector_of}
-use Rattle.ta_moment_tree.specs.Rows.{AddsForms}
+use Rattle.ta_moment_tree.proofs.Common.{◌∙◌, slice_get, arith, ap, sym, subst, Vector, counters_at, event_at, SmallVector, vector_of, AddsForms}
 use Rattle.ta_moment_tree.proofs.Adding.{adds_both}
 use Rattle.ta_moment_tree.proofs.Beginning.{event_small, vector_more_small}
 use Rattle.ta_moment_tree.proofs.first.push_one_event.Goals as goal

@@ -1,5 +1,4 @@
-use Rattle.ta_moment_tree.proofs.Common.{◌∙◌, ap}
-use Rattle.ta_moment_tree.specs.Forms.{forms_of}
+use Rattle.ta_moment_tree.proofs.Common.{◌∙◌, ap, forms_of}
 use Rattle.ta_moment_tree.proofs.Beginning.{start_forms}
 use Rattle.ta_moment_tree.proofs.first.start.Goals as goal
 

@@ -1,6 +1,5 @@
-use Rattle.ta_moment_tree.proofs.Common.{ℕ, ◌∙◌, ◌+◌, ◌*◌, List, length, arith, ap, Meaning}
+use Rattle.ta_moment_tree.proofs.Common.{ℕ, ◌∙◌, ◌+◌, ◌*◌, List, length, arith, ap, Meaning, moving_rules}
 use Rattle.ta_encode.specs.Unknowns.{start_meanings}
-use Rattle.ta_moments.specs.Facts.{moving_rules}
 use Rattle.ta_moment_tree.proofs.Beginning.{count_room}
 use Rattle.ta_moment_tree.proofs.first.unknown_count.Goals as goal
 

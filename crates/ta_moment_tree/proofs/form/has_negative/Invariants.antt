@@ -1,5 +1,4 @@
-use Rattle.std.proofs.Common.{◌≡◌, drop}
-use Rattle.ta_moment_tree.specs.Forms.{has_negative}
+use Rattle.ta_moment_tree.proofs.Common.{◌≡◌, drop, has_negative}
 use Rattle.ta_moment_tree.proofs.form.has_negative.Given as goal
 
 abbrev pub invariant-loop-coefficient : goal.invariant-loop-coefficient

@@ -1,9 +1,4 @@
-use Rattle.std.proofs.Common.{◌≡◌, ◌∙◌, ap, sym, false}
-use Rattle.ta_base.proofs.Integers.{to_z_range}
-use Rattle.ta_base.specs.Masks.{any_below}
-use Rattle.ta_linear.specs.Terms.{coefficient}
-use Rattle.ta_moments.specs.Forms.{below_zero}
-use Rattle.ta_moment_tree.specs.Forms.{has_negative}
+use Rattle.ta_moment_tree.proofs.Common.{◌≡◌, ◌∙◌, ap, sym, false, to_z_range, any_below, coefficient, below_zero, has_negative}
 use Rattle.ta_moment_tree.proofs.Forms.{negative_is, or_after}
 use Rattle.ta_moment_tree.proofs.form.may_be_negative.Goals as goal
 

@@ -1,6 +1,4 @@
-use Rattle.std.proofs.Common.{◌^◌, ◌∙◌, arith, ap, sym, subst}
-use Rattle.ta_moments.specs.Forms.{UnknownForm, plus_form}
-use Rattle.ta_moment_tree.specs.Forms.{SmallBy, form_of}
+use Rattle.ta_moment_tree.proofs.Common.{◌^◌, ◌∙◌, arith, ap, sym, subst, UnknownForm, plus_form, SmallBy, form_of}
 use Rattle.ta_moment_tree.proofs.Forms.{plus_turned, small_more, small_turned}
 use Rattle.ta_moment_tree.proofs.form.minus.Goals as goal
 

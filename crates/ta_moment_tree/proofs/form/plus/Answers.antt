@@ -1,5 +1,4 @@
-use Rattle.std.proofs.Common.{ap}
-use Rattle.std.specs.Prelude.{Err}
+use Rattle.ta_moment_tree.proofs.Common.{ap, Err}
 use Rattle.ta_moment_tree.proofs.Forms.{sum_same, sum_stays}
 use Rattle.ta_moment_tree.proofs.form.plus.Goals as goal
 

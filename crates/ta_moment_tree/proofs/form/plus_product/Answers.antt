@@ -1,6 +1,5 @@
-use Rattle.ta_moment_tree.proofs.Common.{◌≡◌, ◌∙◌, ◌*◌, ◌^◌, ◌≤◌, ℤ, arith, sym, ap, subst, unsigned_abs, to_z_abs}
-use Rattle.ta_moments.specs.Forms.{UnknownForm, plus_form, times_form}
-use Rattle.ta_moment_tree.specs.Forms.{SmallBy, form_of}
+use Rattle.ta_moment_tree.proofs.Common.{◌≡◌, ◌∙◌, ◌*◌, ◌^◌, ◌≤◌, ℤ, arith, sym, ap, subst, unsigned_abs, to_z_abs, UnknownForm, plus_form, times_form, SmallBy}
+use Rattle.ta_moment_tree.proofs.Common.{form_of}
 use Rattle.ta_moment_tree.proofs.Forms.{small_more, small_times}
 use Rattle.ta_moment_tree.proofs.form.plus_product.Goals as goal
 

@@ -1,9 +1,4 @@
-use Rattle.std.proofs.Common.{◌≡◌, ap, subst, ℤ}
-use Rattle.std.specs.Prelude.{Err}
-use Rattle.ta_base.proofs.Integers.{to_z_abs}
-use Rattle.ta_linear.specs.Forms.{IsMultiple, MultipleOutOfRange}
-use Rattle.std.proofs.Common.{arith, to_z, of_z, ◌^◌}
-use Rattle.std.specs.Int.{w128}
+use Rattle.ta_moment_tree.proofs.Common.{◌≡◌, ap, subst, ℤ, Err, to_z_abs, IsMultiple, MultipleOutOfRange, arith, to_z, of_z, ◌^◌, w128}
 use Rattle.ta_moment_tree.proofs.Forms.{multiple_same, product_stays}
 use Rattle.ta_moment_tree.proofs.form.times.Goals as goal
 

@@ -1,5 +1,4 @@
-use Rattle.std.proofs.Common.{ap, negsuc}
-use Rattle.std.specs.Prelude.{Err}
+use Rattle.ta_moment_tree.proofs.Common.{ap, negsuc, Err}
 use Rattle.ta_linear.proofs.TermLemmas.{negative_stays}
 use Rattle.ta_moment_tree.proofs.Forms.{multiple_same}
 use Rattle.ta_moment_tree.proofs.form.turned.Goals as goal

@@ -1,5 +1,5 @@
-use Rattle.ta_moment_tree.proofs.Common.{◌+◌, ◌<◌, ◌^◌, ◌++◌, ◌∷◌, [], arith, sym, ap, ◌∙◌, subst, to_z, of_z, w128, to_z_range}
-use Rattle.ta_moment_tree.proofs.Common.{InRange, IsNormal, IsNormal-push, IsNormal-higher}
+use Rattle.ta_moment_tree.proofs.Common.{◌+◌, ◌<◌, ◌^◌, ◌++◌, ◌∷◌, [], arith, sym, ap, ◌∙◌, subst, to_z, of_z, w128, to_z_range, InRange, IsNormal}
+use Rattle.ta_moment_tree.proofs.Common.{IsNormal-push, IsNormal-higher}
 use Rattle.ta_moment_tree.proofs.form.with_term.Goals as goal
 
 pub invariant_of-result : goal.invariant_of-result

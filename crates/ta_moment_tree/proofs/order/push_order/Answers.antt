@@ -1,8 +1,4 @@
-use Rattle.ta_moment_tree.proofs.Common.{◌∙◌, slice_get, ap, sym}
-use Rattle.std.specs.Prelude.{option_copied}
-use Rattle.std.specs.Option.{option_map}
-use Rattle.ta_moments.specs.Moments.{rows_of_order}
-use Rattle.ta_moment_tree.specs.Moments.{moment_of, moments_of}
+use Rattle.ta_moment_tree.proofs.Common.{◌∙◌, slice_get, ap, sym, option_copied, option_map, rows_of_order, moment_of, moments_of}
 use Rattle.ta_moment_tree.proofs.Adding.{adds_none, adds_same}
 use Rattle.ta_moment_tree.proofs.order.push_order.Goals as goal
 

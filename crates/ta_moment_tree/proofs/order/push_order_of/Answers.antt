@@ -1,7 +1,4 @@
-use Rattle.ta_moment_tree.proofs.Common.{sym, subst}
-use Rattle.ta_moments.specs.Moments.{Vector, below}
-use Rattle.ta_moments.proofs.Speaking.{VectorSpeaks}
-use Rattle.ta_moment_tree.specs.Forms.{SmallVector}
+use Rattle.ta_moment_tree.proofs.Common.{sym, subst, Vector, below, VectorSpeaks, SmallVector}
 use Rattle.ta_moment_tree.proofs.Adding.{adds_same}
 use Rattle.ta_moment_tree.proofs.order.push_order_of.Goals as goal
 

@@ -1,6 +1,4 @@
-use Rattle.ta_moment_tree.proofs.Common.{ℕ, ◌∙◌, map, ap}
-use Rattle.ta_moments.specs.Forms.{opposite_form}
-use Rattle.ta_moment_tree.specs.Forms.{vector_of}
+use Rattle.ta_moment_tree.proofs.Common.{ℕ, ◌∙◌, map, ap, opposite_form, vector_of}
 use Rattle.ta_moment_tree.proofs.Adding.{adds_same}
 use Rattle.ta_moment_tree.proofs.plain.push_never.Goals as goal
 

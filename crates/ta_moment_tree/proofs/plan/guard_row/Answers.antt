@@ -1,5 +1,4 @@
-use Rattle.ta_moment_tree.proofs.Common.{◌≡◌, ◌-◌, ◌+◌, ◌∙◌, sym, ap, arith, length, List, slice_get, Row}
-use Rattle.ta_base.proofs.Lists.{slice_get_right}
+use Rattle.ta_moment_tree.proofs.Common.{◌≡◌, ◌-◌, ◌+◌, ◌∙◌, sym, ap, arith, length, List, slice_get, Row, slice_get_right}
 use Rattle.ta_moment_tree.proofs.Lists.{copied}
 use Rattle.ta_moment_tree.proofs.plan.guard_row.Goals as goal
 

@@ -1,7 +1,6 @@
 use Rattle.ta_moment_tree.proofs.Common.{◌≡◌, ◌-◌, ◌<◌, ◌≤◌, arith, sym, ap, ◌∙◌, subst, refl, List, length, slice_get, Some, nat_lt, has_bit, slice_get_read}
-use Rattle.ta_moment_tree.proofs.Common.{Rule, Row}
+use Rattle.ta_moment_tree.proofs.Common.{Rule, Row, has_guard}
 use Rattle.std.proofs.lemmas.Bool.{cond-true, cond-false}
-use Rattle.ta_moments.specs.Facts.{has_guard}
 use Rattle.ta_moment_tree.proofs.Lists.{less_true, less_false}
 use Rattle.ta_moment_tree.proofs.plan.has_guard.Goals as goal
 

@@ -1,4 +1,4 @@
-use Rattle.std.proofs.Common.{sym}
+use Rattle.ta_moment_tree.proofs.Common.{sym}
 use Rattle.ta_base.proofs.Bits.{has_above}
 use Rattle.ta_moment_tree.proofs.plan.is_in.Goals as goal
 

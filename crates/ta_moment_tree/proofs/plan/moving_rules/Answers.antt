@@ -1,8 +1,7 @@
-use Rattle.ta_moment_tree.proofs.Common.{ℕ, Bool, List, ◌++◌, ◌∷◌, [], sym, ap, ◌∙◌, slice_get}
-use Rattle.ta_moments.specs.Facts.{is_moving}
+use Rattle.ta_moment_tree.proofs.Common.{ℕ, Bool, List, ◌++◌, ◌∷◌, [], sym, ap, ◌∙◌, slice_get, is_moving}
 use Rattle.ta_moment_tree.proofs.Lists.{filter_kept, filter_left}
-use Rattle.ta_moment_tree.proofs.plan.moving_rules.Goals as goal
 use Rattle.ta_moment_tree.proofs.plan.moving_rules.Goals.{then-is_moving+in_ok-push, else-is_moving}
+use Rattle.ta_moment_tree.proofs.plan.moving_rules.Goals as goal
 
 pub loop-rule-preserved : goal.loop-rule-preserved
 loop-rule-preserved c =

@@ -1,7 +1,4 @@
-use Rattle.std.proofs.Common.{◌≡◌, slice_get}
-use Rattle.std.specs.Prelude.{filter}
-use Rattle.std.specs.List.{range_with_len}
-use Rattle.ta_moments.specs.Facts.{is_moving}
+use Rattle.ta_moment_tree.proofs.Common.{◌≡◌, slice_get, filter, range_with_len, is_moving}
 use Rattle.ta_moment_tree.proofs.plan.moving_rules.Given as goal
 
 abbrev pub invariant-loop-rule : goal.invariant-loop-rule

@@ -1,8 +1,7 @@
-use Rattle.ta_moment_tree.proofs.Common.{ℕ, Bool, List, ◌++◌, ◌∷◌, [], get_or, not, sym, ap, ◌∙◌, slice_get}
-use Rattle.ta_moments.specs.Facts.{has_guard}
+use Rattle.ta_moment_tree.proofs.Common.{ℕ, Bool, List, ◌++◌, ◌∷◌, [], get_or, not, sym, ap, ◌∙◌, slice_get, has_guard}
 use Rattle.ta_moment_tree.proofs.Lists.{item_kept, item_left}
-use Rattle.ta_moment_tree.proofs.plan.sparing.Goals as goal
 use Rattle.ta_moment_tree.proofs.plan.sparing.Goals.{then-not-has_guard+in_ok-push, else-not-has_guard}
+use Rattle.ta_moment_tree.proofs.plan.sparing.Goals as goal
 
 pub loop-rule-preserved : goal.loop-rule-preserved
 loop-rule-preserved c =

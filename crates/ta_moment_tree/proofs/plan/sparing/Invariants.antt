@@ -1,6 +1,4 @@
-use Rattle.std.proofs.Common.{◌≡◌, not, slice_get, take}
-use Rattle.std.specs.Prelude.{filter}
-use Rattle.ta_moments.specs.Facts.{has_guard}
+use Rattle.ta_moment_tree.proofs.Common.{◌≡◌, not, slice_get, take, filter, has_guard}
 use Rattle.ta_moment_tree.proofs.plan.sparing.Given as goal
 
 abbrev pub invariant-loop-rule : goal.invariant-loop-rule

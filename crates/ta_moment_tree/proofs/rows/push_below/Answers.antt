@@ -1,13 +1,9 @@
-use Rattle.ta_moment_tree.proofs.Common.{◌≡◌, ◌∙◌, ℕ, ◌+◌, ◌++◌, ◌∷◌, [], arith, ap, sym, subst, length, get_or, List, map, filter, take, Row}
-use Rattle.std.proofs.Math.Seq.{take-length}
-use Rattle.ta_moments.specs.Forms.{UnknownForm, may_be_negative, minus_form}
-use Rattle.ta_moments.specs.Laws.{Speaks}
-use Rattle.ta_moment_tree.specs.Forms.{form_of, vector_of}
-use Rattle.ta_moment_tree.specs.Rows.{AddsForms}
+use Rattle.ta_moment_tree.proofs.Common.{◌≡◌, ◌∙◌, ℕ, ◌+◌, ◌++◌, ◌∷◌, [], arith, ap, sym, subst, length, get_or, List, map, filter, take, Row, take-length}
+use Rattle.ta_moment_tree.proofs.Common.{UnknownForm, may_be_negative, minus_form, Speaks, form_of, vector_of, AddsForms}
 use Rattle.ta_moment_tree.proofs.Forms.{minus_speaks}
 use Rattle.ta_moment_tree.proofs.Adding.{adds_more, adds_same, kept_none, kept_one}
-use Rattle.ta_moment_tree.proofs.rows.push_below.Goals as goal
 use Rattle.ta_moment_tree.proofs.rows.push_below.Goals.{then-may_be_negative+in_ok-push_form, else-may_be_negative}
+use Rattle.ta_moment_tree.proofs.rows.push_below.Goals as goal
 
 pub loop-rule-preserved : goal.loop-rule-preserved
 loop-rule-preserved c n h k =

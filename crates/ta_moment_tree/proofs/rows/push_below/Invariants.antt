@@ -1,9 +1,4 @@
-use Rattle.std.proofs.Common.{ℕ, map, take}
-use Rattle.std.specs.Prelude.{filter}
-use Rattle.ta_moments.specs.Forms.{may_be_negative, minus_form}
-use Rattle.ta_moments.specs.Laws.{Speaks}
-use Rattle.ta_moment_tree.specs.Forms.{vector_of}
-use Rattle.ta_moment_tree.specs.Rows.{AddsForms}
+use Rattle.ta_moment_tree.proofs.Common.{ℕ, map, take, filter, may_be_negative, minus_form, Speaks, vector_of, AddsForms}
 use Rattle.ta_moment_tree.proofs.rows.push_below.Given as goal
 
 abbrev pub invariant-loop-rule : goal.invariant-loop-rule

@@ -1,6 +1,4 @@
-use Rattle.ta_moment_tree.proofs.Common.{◌∙◌, ap, ◌++◌, List, map, take, Row, Comparison}
-use Rattle.ta_moments.specs.Moments.{condition_at, form_at}
-use Rattle.ta_moment_tree.specs.Forms.{vector_of}
+use Rattle.ta_moment_tree.proofs.Common.{◌∙◌, ap, ◌++◌, List, map, take, Row, Comparison, condition_at, form_at, vector_of}
 use Rattle.ta_moment_tree.proofs.Adding.{adds_more, flat_more}
 use Rattle.ta_moment_tree.proofs.rows.push_condition.Goals as goal
 

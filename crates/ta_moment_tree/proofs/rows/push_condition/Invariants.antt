@@ -1,7 +1,4 @@
-use Rattle.std.proofs.Common.{take}
-use Rattle.ta_moments.specs.Moments.{condition_at}
-use Rattle.ta_moment_tree.specs.Forms.{vector_of}
-use Rattle.ta_moment_tree.specs.Rows.{AddsForms}
+use Rattle.ta_moment_tree.proofs.Common.{take, condition_at, vector_of, AddsForms}
 use Rattle.ta_moment_tree.proofs.rows.push_condition.Given as goal
 
 abbrev pub invariant-loop-comparison : goal.invariant-loop-comparison

@@ -1,12 +1,8 @@
 use Rattle.ta_moment_tree.proofs.Common.{◌≡◌, ◌∙◌, ℕ, Bool, not, ◌+◌, ◌++◌, ◌∷◌, [], arith, ap, sym, subst, length, List, map, filter, range_with_len, has_bit}
-use Rattle.ta_moment_tree.proofs.Common.{passed_none, passed_one, location_place, Row}
-use Rattle.ta_moments.specs.Forms.{UnknownForm}
-use Rattle.ta_moments.specs.Moments.{place_form}
-use Rattle.ta_moment_tree.specs.Forms.{vector_of}
-use Rattle.ta_moment_tree.specs.Rows.{AddsForms}
+use Rattle.ta_moment_tree.proofs.Common.{passed_none, passed_one, location_place, Row, UnknownForm, place_form, vector_of, AddsForms}
 use Rattle.ta_moment_tree.proofs.Adding.{adds_more, adds_same}
-use Rattle.ta_moment_tree.proofs.rows.push_counters.Goals as goal
 use Rattle.ta_moment_tree.proofs.rows.push_counters.Goals.{then-not-contains+in_ok-counter+in_ok-push_form, else-not-contains}
+use Rattle.ta_moment_tree.proofs.rows.push_counters.Goals as goal
 
 pub loop-location-preserved : goal.loop-location-preserved
 loop-location-preserved c =

@@ -1,11 +1,4 @@
-use Rattle.std.proofs.Common.{map, not}
-use Rattle.std.specs.Prelude.{filter}
-use Rattle.std.specs.List.{range_with_len}
-use Rattle.ta_base.specs.Masks.{has_bit}
-use Rattle.ta_automaton.specs.Places.{location_place}
-use Rattle.ta_moments.specs.Moments.{place_form}
-use Rattle.ta_moment_tree.specs.Forms.{vector_of}
-use Rattle.ta_moment_tree.specs.Rows.{AddsForms}
+use Rattle.ta_moment_tree.proofs.Common.{map, not, filter, range_with_len, has_bit, location_place, place_form, vector_of, AddsForms}
 use Rattle.ta_moment_tree.proofs.rows.push_counters.Given as goal
 
 abbrev pub invariant-loop-location : goal.invariant-loop-location

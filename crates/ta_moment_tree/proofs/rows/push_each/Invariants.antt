@@ -1,6 +1,4 @@
-use Rattle.std.proofs.Common.{map, take}
-use Rattle.ta_moment_tree.specs.Forms.{vector_of}
-use Rattle.ta_moment_tree.specs.Rows.{AddsForms}
+use Rattle.ta_moment_tree.proofs.Common.{map, take, vector_of, AddsForms}
 use Rattle.ta_moment_tree.proofs.rows.push_each.Given as goal
 
 abbrev pub invariant-loop-rule : goal.invariant-loop-rule

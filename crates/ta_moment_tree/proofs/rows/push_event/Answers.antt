@@ -1,9 +1,6 @@
-use Rattle.ta_moment_tree.proofs.Common.{◌≡◌, ◌≤◌, List, length, slice_get, Some, None, refl, sym, ap, subst, slice_get_read, slice_get_past}
-use Rattle.std.proofs.lemmas.Bool.{ltb-false}
-use Rattle.ta_automaton.specs.declared.pattern.Event.{Event}
+use Rattle.ta_moment_tree.proofs.Common.{◌≡◌, ◌≤◌, List, length, slice_get, Some, None, refl, sym, ap, subst, slice_get_read, slice_get_past, ltb-false}
+use Rattle.ta_moment_tree.proofs.Common.{event_at, vector_of, Event}
 use Rattle.ta_encode.proofs.Drafts.{events_small}
-use Rattle.ta_moments.specs.Moments.{event_at}
-use Rattle.ta_moment_tree.specs.Forms.{vector_of}
 use Rattle.ta_moment_tree.proofs.Adding.{adds_none, adds_same}
 use Rattle.ta_moment_tree.proofs.rows.push_event.Goals as goal
 

@@ -1,7 +1,5 @@
-use Rattle.ta_moment_tree.proofs.Common.{◌∙◌, ℕ, ℤ, ap, [], ◌∷◌, List, to_z_range}
-use Rattle.ta_moments.specs.Forms.{UnknownForm, number_form, plus_form, terms_form}
-use Rattle.ta_moments.specs.Moments.{place_form}
-use Rattle.ta_moment_tree.specs.Forms.{vector_of}
+use Rattle.ta_moment_tree.proofs.Common.{◌∙◌, ℕ, ℤ, ap, [], ◌∷◌, List, to_z_range, UnknownForm, number_form, plus_form, place_form, vector_of}
+use Rattle.ta_moments.specs.Forms.{terms_form}
 use Rattle.ta_moment_tree.proofs.Adding.{adds_same}
 use Rattle.ta_moment_tree.proofs.rows.push_form_at.Goals as goal
 

@@ -1,5 +1,4 @@
-use Rattle.ta_moment_tree.proofs.Common.{◌∙◌, sym, ap}
-use Rattle.std.specs.Prelude.{option_copied}
+use Rattle.ta_moment_tree.proofs.Common.{◌∙◌, sym, ap, option_copied}
 use Rattle.ta_moment_tree.proofs.Smallness.{guard_small}
 use Rattle.ta_moment_tree.proofs.rows.push_guard.Goals as goal
 

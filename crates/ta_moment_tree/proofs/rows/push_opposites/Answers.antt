@@ -1,6 +1,4 @@
-use Rattle.ta_moment_tree.proofs.Common.{◌∙◌, ℕ, ap, [], ◌∷◌, ◌++◌, map, take}
-use Rattle.ta_moments.specs.Forms.{UnknownForm, opposite_form}
-use Rattle.ta_moment_tree.specs.Forms.{vector_of}
+use Rattle.ta_moment_tree.proofs.Common.{◌∙◌, ℕ, ap, [], ◌∷◌, ◌++◌, map, take, UnknownForm, opposite_form, vector_of}
 use Rattle.ta_moment_tree.proofs.Adding.{adds_more, map_more}
 use Rattle.ta_moment_tree.proofs.rows.push_opposites.Goals as goal
 

@@ -1,7 +1,4 @@
-use Rattle.std.proofs.Common.{map, take}
-use Rattle.ta_moments.specs.Forms.{opposite_form}
-use Rattle.ta_moment_tree.specs.Forms.{vector_of}
-use Rattle.ta_moment_tree.specs.Rows.{AddsForms}
+use Rattle.ta_moment_tree.proofs.Common.{map, take, opposite_form, vector_of, AddsForms}
 use Rattle.ta_moment_tree.proofs.rows.push_opposites.Given as goal
 
 abbrev pub invariant-loop-rule : goal.invariant-loop-rule

@@ -1,6 +1,4 @@
-use Rattle.ta_moment_tree.proofs.Common.{◌∙◌, ap, [], ◌∷◌, ◌++◌, map, take, Row}
-use Rattle.ta_moments.specs.Moments.{form_at}
-use Rattle.ta_moment_tree.specs.Forms.{vector_of}
+use Rattle.ta_moment_tree.proofs.Common.{◌∙◌, ap, [], ◌∷◌, ◌++◌, map, take, Row, form_at, vector_of}
 use Rattle.ta_moment_tree.proofs.Adding.{adds_more, map_more}
 use Rattle.ta_moment_tree.proofs.rows.push_rows.Goals as goal
 

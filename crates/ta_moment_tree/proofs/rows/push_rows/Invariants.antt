@@ -1,8 +1,4 @@
-use Rattle.std.proofs.Common.{map, take}
-use Rattle.ta_linear.specs.declared.row.Row.{Row}
-use Rattle.ta_moments.specs.Moments.{form_at}
-use Rattle.ta_moment_tree.specs.Forms.{vector_of}
-use Rattle.ta_moment_tree.specs.Rows.{AddsForms}
+use Rattle.ta_moment_tree.proofs.Common.{map, take, Row, form_at, vector_of, AddsForms}
 use Rattle.ta_moment_tree.proofs.rows.push_rows.Given as goal
 
 abbrev pub invariant-loop-row : goal.invariant-loop-row

@@ -1,10 +1,4 @@
-use Rattle.ta_moment_tree.proofs.Common.{◌++◌, List, sym, subst}
-use Rattle.std.proofs.Common.{append_assoc}
-use Rattle.ta_moments.specs.Forms.{UnknownForm}
-use Rattle.ta_moments.specs.Moments.{Vector, below, early, late}
-use Rattle.ta_moments.proofs.Speaking.{VectorSpeaks}
-use Rattle.ta_moment_tree.specs.Forms.{SmallVector}
-use Rattle.ta_moment_tree.specs.Moments.{moment_of}
+use Rattle.ta_moment_tree.proofs.Common.{◌++◌, List, sym, subst, append_assoc, UnknownForm, Vector, below, early, late, VectorSpeaks, SmallVector, moment_of}
 use Rattle.ta_moment_tree.proofs.Adding.{adds_both, adds_same}
 use Rattle.ta_moment_tree.proofs.same.push_same_of.Goals as goal
 

@@ -1,8 +1,4 @@
-use Rattle.ta_moment_tree.proofs.Common.{◌∙◌, Some, ap, sym}
-use Rattle.std.specs.Prelude.{option_copied}
-use Rattle.std.specs.Option.{option_map}
-use Rattle.ta_moments.specs.Moments.{rows_of_same}
-use Rattle.ta_moment_tree.specs.Moments.{moment_of}
+use Rattle.ta_moment_tree.proofs.Common.{◌∙◌, Some, ap, sym, option_copied, option_map, rows_of_same, moment_of}
 use Rattle.ta_moment_tree.proofs.Adding.{adds_none, adds_same}
 use Rattle.ta_moment_tree.proofs.same.push_same_to.Goals as goal
 

@@ -1,5 +1,4 @@
-use Rattle.std.proofs.Common.{◌≡◌, drop}
-use Rattle.ta_rest.specs.Quiet.{is_silent}
+use Rattle.ta_moment_tree.proofs.Common.{◌≡◌, drop, is_silent}
 use Rattle.ta_moment_tree.proofs.silence.is_silent.Given as goal
 
 abbrev pub invariant-loop-quiet : goal.invariant-loop-quiet

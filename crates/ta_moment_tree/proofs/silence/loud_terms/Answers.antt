@@ -1,9 +1,8 @@
-use Rattle.ta_moment_tree.proofs.Common.{ℕ, ℤ, pos, ◌≡◌, ◌∙◌, ◌++◌, ◌∷◌, [], List, get_or, arith, ap, sym, not, Bool, to_z, of_z, w128, to_z_abs}
-use Rattle.ta_rest.specs.Quiet.{is_silent}
+use Rattle.ta_moment_tree.proofs.Common.{ℕ, ℤ, pos, ◌≡◌, ◌∙◌, ◌++◌, ◌∷◌, [], List, get_or, arith, ap, sym, not, Bool, to_z, of_z, w128, to_z_abs, is_silent}
 use Rattle.ta_moment_tree.proofs.Lists.{item_kept, item_left}
 use Rattle.ta_moment_tree.proofs.Sums.{factor_small}
-use Rattle.ta_moment_tree.proofs.silence.loud_terms.Goals as goal
 use Rattle.ta_moment_tree.proofs.silence.loud_terms.Goals.{then-not-is_silent+in_ok-push, else-not-is_silent}
+use Rattle.ta_moment_tree.proofs.silence.loud_terms.Goals as goal
 
 pub loop-place-preserved : goal.loop-place-preserved
 loop-place-preserved c =

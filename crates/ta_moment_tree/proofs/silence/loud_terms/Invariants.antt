@@ -1,5 +1,4 @@
-use Rattle.std.proofs.Common.{◌≡◌, take}
-use Rattle.ta_rest.specs.Quiet.{loud_terms}
+use Rattle.ta_moment_tree.proofs.Common.{◌≡◌, take, loud_terms}
 use Rattle.ta_moment_tree.proofs.silence.loud_terms.Given as goal
 
 abbrev pub invariant-loop-place : goal.invariant-loop-place

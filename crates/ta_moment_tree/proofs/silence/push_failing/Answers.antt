@@ -1,8 +1,5 @@
-use Rattle.ta_moment_tree.proofs.Common.{◌≡◌, ◌∙◌, ◌∷◌, [], Option, Some, map, slice_get, ap, sym, Row}
-use Rattle.std.specs.Prelude.{option_copied}
-use Rattle.ta_moments.specs.Forms.{UnknownForm, negated_form}
-use Rattle.ta_moments.specs.Moments.{guards, quiet_at}
-use Rattle.ta_moment_tree.specs.Forms.{vector_of}
+use Rattle.ta_moment_tree.proofs.Common.{◌≡◌, ◌∙◌, ◌∷◌, [], Option, Some, map, slice_get, ap, sym, Row, option_copied, UnknownForm, negated_form, guards}
+use Rattle.ta_moment_tree.proofs.Common.{quiet_at, vector_of}
 use Rattle.ta_moment_tree.proofs.Adding.{adds_same}
 use Rattle.ta_moment_tree.proofs.silence.push_failing.Goals as goal
 

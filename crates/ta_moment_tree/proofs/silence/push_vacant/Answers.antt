@@ -1,10 +1,5 @@
 use Rattle.ta_moment_tree.proofs.Common.{◌≡◌, ◌∙◌, ◌+◌, ◌*◌, ◌≤◌, ◌^◌, ◌∷◌, [], List, Option, Some, None, length, map, slice_get, arith, ap, sym, subst, refl}
-use Rattle.std.proofs.lemmas.Bool.{ltb-false}
-use Rattle.std.proofs.lemmas.Option.{slice_get_past, slice_get_read}
-use Rattle.ta_automaton.specs.declared.rule.Rule.{Rule}
-use Rattle.ta_moments.specs.Forms.{UnknownForm, opposite_form}
-use Rattle.ta_moments.specs.Moments.{place_form, source_at}
-use Rattle.ta_moment_tree.specs.Forms.{vector_of}
+use Rattle.ta_moment_tree.proofs.Common.{ltb-false, slice_get_past, slice_get_read, Rule, UnknownForm, opposite_form, place_form, source_at, vector_of}
 use Rattle.ta_moment_tree.proofs.Adding.{adds_none, adds_same}
 use Rattle.ta_moment_tree.proofs.Forms.{small_more}
 use Rattle.ta_moment_tree.proofs.silence.push_vacant.Goals as goal

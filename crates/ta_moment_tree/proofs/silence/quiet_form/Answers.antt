@@ -1,5 +1,4 @@
-use Rattle.ta_moment_tree.proofs.Common.{ℕ, ℤ, ◌∙◌, ◌≤◌, List, ap, arith, sym, subst, unsigned_abs, to_z_abs, SmallTerms}
-use Rattle.ta_rest.specs.Quiet.{loud_terms}
+use Rattle.ta_moment_tree.proofs.Common.{ℕ, ℤ, ◌∙◌, ◌≤◌, List, ap, arith, sym, subst, unsigned_abs, to_z_abs, SmallTerms, loud_terms}
 use Rattle.ta_moment_tree.proofs.Smallness.{guard_small, loud_small}
 use Rattle.ta_moment_tree.proofs.silence.quiet_form.Goals as goal
 

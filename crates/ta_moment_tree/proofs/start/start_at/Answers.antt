@@ -1,12 +1,8 @@
-use Rattle.std.proofs.Common.{◌≡◌, ◌≢◌, ℕ, suc, ◌+◌, ◌<◌, ◌^◌, List, Option, Some, length, slice_get, arith, ap, sym, ◌∙◌}
-use Rattle.std.specs.Option.{option_map}
-use Rattle.std.specs.Prelude.{◌==◌}
-use Rattle.std.proofs.lemmas.Bool.{eqb-false}
-use Rattle.std.proofs.lemmas.Option.{slice_get-map}
-use Rattle.ta_moments.specs.Searched.{start_of}
+use Rattle.ta_moment_tree.proofs.Common.{◌≡◌, ◌≢◌, ℕ, suc, ◌+◌, ◌<◌, ◌^◌, List, Option, Some, length, slice_get, arith, ap, sym, ◌∙◌, option_map, ◌==◌}
+use Rattle.ta_moment_tree.proofs.Common.{eqb-false, slice_get-map, start_of}
 use Rattle.ta_moment_tree.proofs.Roots.{event_below, last_events, some_events}
-use Rattle.ta_moment_tree.proofs.start.start_at.Goals as goal
 use Rattle.ta_moment_tree.proofs.start.start_at.Goals.{In-None, In-Some}
+use Rattle.ta_moment_tree.proofs.start.start_at.Goals as goal
 
 pub overflow_add-result : goal.overflow_add-result
 overflow_add-result c =

@@ -1,6 +1,5 @@
 use Rattle.ta_moment_tree.proofs.Common.{◌≡◌, ◌∙◌, ◌<◌, ◌^◌, ◌++◌, ◌∷◌, List, [], ℕ, ℤ, pos, arith, ap, unsigned_abs, to_z, of_z, w128, to_z_range}
-use Rattle.ta_moment_tree.proofs.Common.{bound_constant, bound_row, bound_sense, coefficient, coefficient_in_sense, ints}
-use Rattle.ta_moment_tree.specs.Systems.{bound_form}
+use Rattle.ta_moment_tree.proofs.Common.{bound_constant, bound_row, bound_sense, coefficient, coefficient_in_sense, ints, bound_form}
 use Rattle.ta_moment_tree.proofs.Forms.{form_same}
 use Rattle.ta_moment_tree.proofs.Systems.{bound_start, bound_terms}
 use Rattle.ta_moment_tree.proofs.system.bound_form.Goals as goal

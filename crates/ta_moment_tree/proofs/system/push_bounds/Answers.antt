@@ -1,6 +1,4 @@
-use Rattle.ta_moment_tree.proofs.Common.{◌∙◌, ap, [], ◌∷◌, ◌++◌, take}
-use Rattle.ta_moments.specs.Forms.{UnknownForm}
-use Rattle.ta_moment_tree.specs.Systems.{bound_form, bound_forms}
+use Rattle.ta_moment_tree.proofs.Common.{◌∙◌, ap, [], ◌∷◌, ◌++◌, take, UnknownForm, bound_form, bound_forms}
 use Rattle.ta_moment_tree.proofs.Adding.{adds_more, adds_one, map_more}
 use Rattle.ta_moment_tree.proofs.system.push_bounds.Goals as goal
 

@@ -1,6 +1,4 @@
-use Rattle.ta_moment_tree.proofs.Common.{take}
-use Rattle.ta_moment_tree.specs.Rows.{AddsForms}
-use Rattle.ta_moment_tree.specs.Systems.{bound_forms}
+use Rattle.ta_moment_tree.proofs.Common.{take, AddsForms, bound_forms}
 use Rattle.ta_moment_tree.proofs.system.push_bounds.Given as goal
 
 abbrev pub invariant-loop-bound : goal.invariant-loop-bound

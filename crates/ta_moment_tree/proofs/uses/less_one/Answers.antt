@@ -1,6 +1,6 @@
-use Rattle.ta_moment_tree.proofs.Common.{pos, ◌≡◌, ◌∙◌, ◌+◌, ◌^◌, get_or, arith, ap, sym, subst}
-use Rattle.ta_moments.specs.Forms.{UnknownForm, minus_form, number_form, plus_form, sum_form}
-use Rattle.ta_moment_tree.specs.Forms.{SmallBy, form_of, vector_of}
+use Rattle.ta_moment_tree.proofs.Common.{pos, ◌≡◌, ◌∙◌, ◌+◌, ◌^◌, get_or, arith, ap, sym, subst, UnknownForm, minus_form, number_form, plus_form, SmallBy}
+use Rattle.ta_moment_tree.proofs.Common.{form_of, vector_of}
+use Rattle.ta_moments.specs.Forms.{sum_form}
 use Rattle.ta_moment_tree.proofs.Forms.{number_is, small_minus, small_more, small_number, small_plus}
 use Rattle.ta_moment_tree.proofs.Sums.{none_plus, sum_all, sum_more}
 use Rattle.ta_moment_tree.proofs.Beginning.{vector_more_small}

@@ -1,6 +1,5 @@
-use Rattle.std.proofs.Common.{◌≡◌, drop}
-use Rattle.ta_moments.specs.Forms.{plus_form, sum_form}
-use Rattle.ta_moment_tree.specs.Forms.{SmallBy, form_of, vector_of}
+use Rattle.ta_moment_tree.proofs.Common.{◌≡◌, drop, plus_form, SmallBy, form_of, vector_of}
+use Rattle.ta_moments.specs.Forms.{sum_form}
 use Rattle.ta_moment_tree.proofs.uses.less_one.Given as goal
 
 abbrev pub invariant-loop-rule : goal.invariant-loop-rule

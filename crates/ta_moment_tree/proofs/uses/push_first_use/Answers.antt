@@ -1,10 +1,6 @@
-use Rattle.ta_moment_tree.proofs.Common.{ℕ, pos, ◌∙◌, ◌+◌, ◌++◌, List, length, slice_get, arith, ap, sym, subst}
-use Rattle.ta_automaton.specs.declared.rule.Rule.{Rule}
-use Rattle.ta_moments.specs.Facts.{sparing}
-use Rattle.ta_moments.specs.Moments.{Point, Vector, below, counters_at, first_vector, guard_at, guards, nothing_fired}
-use Rattle.ta_moments.proofs.Speaking.{VectorSpeaks, speak_fresh, speak_number, vector_more}
-use Rattle.ta_moment_tree.specs.Forms.{SmallVector, vector_of}
-use Rattle.ta_moment_tree.specs.Rows.{AddsForms}
+use Rattle.ta_moment_tree.proofs.Common.{ℕ, pos, ◌∙◌, ◌+◌, ◌++◌, List, length, slice_get, arith, ap, sym, subst, Rule, sparing, Point, Vector, below}
+use Rattle.ta_moment_tree.proofs.Common.{counters_at, first_vector, guard_at, guards, nothing_fired, VectorSpeaks, speak_fresh, speak_number, vector_more}
+use Rattle.ta_moment_tree.proofs.Common.{SmallVector, vector_of, AddsForms}
 use Rattle.ta_moment_tree.proofs.Beginning.{first_is, first_small, nothing_small, sparing_below, sparing_few}
 use Rattle.ta_moment_tree.proofs.uses.push_first_use.Goals as goal
 

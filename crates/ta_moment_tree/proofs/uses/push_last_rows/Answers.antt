@@ -1,9 +1,6 @@
-use Rattle.ta_moment_tree.proofs.Common.{pos, ◌∷◌, [], List, map, slice_get, arith, ap, sym, subst}
-use Rattle.ta_moments.specs.Forms.{UnknownForm, minus_form, negated_form, number_form, opposite_form, sum_form}
-use Rattle.ta_moments.specs.Moments.{Vector, below, counters_at, guard_at, guards}
-use Rattle.ta_moments.proofs.Speaking.{VectorSpeaks}
-use Rattle.ta_moment_tree.specs.Forms.{SmallVector, vector_of}
-use Rattle.ta_moment_tree.specs.Rows.{AddsForms}
+use Rattle.ta_moment_tree.proofs.Common.{pos, ◌∷◌, [], List, map, slice_get, arith, ap, sym, subst, UnknownForm, minus_form, negated_form, number_form}
+use Rattle.ta_moment_tree.proofs.Common.{opposite_form, Vector, below, counters_at, guard_at, guards, VectorSpeaks, SmallVector, vector_of, AddsForms}
+use Rattle.ta_moments.specs.Forms.{sum_form}
 use Rattle.ta_moment_tree.proofs.Adding.{adds_both, adds_same}
 use Rattle.ta_moment_tree.proofs.Beginning.{quiet_none, vector_more_small}
 use Rattle.ta_moment_tree.proofs.uses.push_last_rows.Goals as goal

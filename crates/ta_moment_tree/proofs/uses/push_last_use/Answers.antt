@@ -1,8 +1,5 @@
-use Rattle.ta_moment_tree.proofs.Common.{◌∙◌, ◌+◌, List, ℕ, length, arith, ap, sym, subst}
-use Rattle.ta_moments.specs.Facts.{needing, sparing}
-use Rattle.ta_moments.specs.Moments.{Pair, Vector, before_vector}
-use Rattle.ta_moments.proofs.Speaking.{VectorSpeaks, vector_more}
-use Rattle.ta_moment_tree.specs.Forms.{SmallVector, vector_of}
+use Rattle.ta_moment_tree.proofs.Common.{◌∙◌, ◌+◌, List, ℕ, length, arith, ap, sym, subst, needing, sparing, Pair, Vector, before_vector, VectorSpeaks}
+use Rattle.ta_moment_tree.proofs.Common.{vector_more, SmallVector, vector_of}
 use Rattle.ta_moment_tree.specs.Rows.{last_rows}
 use Rattle.ta_moment_tree.proofs.Adding.{adds_same}
 use Rattle.ta_moment_tree.proofs.Beginning.{after_small, after_speaks, before_small, needing_few, step_small}

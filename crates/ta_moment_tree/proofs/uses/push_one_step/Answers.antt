@@ -1,5 +1,4 @@
-use Rattle.ta_moment_tree.proofs.Common.{◌∙◌, ◌^◌, ◌∷◌, [], arith, ap}
-use Rattle.ta_moments.specs.Forms.{UnknownForm, opposite_form}
+use Rattle.ta_moment_tree.proofs.Common.{◌∙◌, ◌^◌, ◌∷◌, [], arith, ap, UnknownForm, opposite_form}
 use Rattle.ta_moment_tree.proofs.Adding.{adds_both, adds_same}
 use Rattle.ta_moment_tree.proofs.Forms.{small_more}
 use Rattle.ta_moment_tree.proofs.uses.push_one_step.Goals as goal

@@ -1,8 +1,6 @@
-use Rattle.ta_moment_tree.proofs.Common.{ℕ, ◌∙◌, List, length, arith, ap, sym, subst}
-use Rattle.ta_automaton.specs.declared.rule.Rule.{Rule}
-use Rattle.ta_moments.specs.Forms.{minus_form, plus_form}
-use Rattle.ta_moments.specs.Moments.{Vector, fresh, nothing_fired}
-use Rattle.ta_moment_tree.specs.Forms.{SmallVector, vector_of}
+use Rattle.ta_moment_tree.proofs.Common.{ℕ, ◌∙◌, List, length, arith, ap, sym, subst, Rule, minus_form, plus_form, Vector, nothing_fired, SmallVector}
+use Rattle.ta_moment_tree.proofs.Common.{vector_of}
+use Rattle.ta_moments.specs.Moments.{fresh}
 use Rattle.ta_moment_tree.proofs.Beginning.{after_is, before_is, fresh_small, less_small, needing_below, needing_few, nothing_small}
 use Rattle.ta_moment_tree.proofs.Beginning.{sparing_below, sparing_few, step_is, vector_more_small}
 use Rattle.ta_moment_tree.proofs.uses.step_vectors.Goals as goal

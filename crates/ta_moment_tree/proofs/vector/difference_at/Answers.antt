@@ -1,6 +1,4 @@
-use Rattle.ta_moment_tree.proofs.Common.{◌∙◌, ◌^◌, arith, sym, ap, subst}
-use Rattle.ta_moments.specs.Forms.{UnknownForm, minus_form}
-use Rattle.ta_moment_tree.specs.Forms.{SmallBy, form_of, vector_of}
+use Rattle.ta_moment_tree.proofs.Common.{◌∙◌, ◌^◌, arith, sym, ap, subst, UnknownForm, minus_form, SmallBy, form_of, vector_of}
 use Rattle.ta_moment_tree.proofs.Forms.{small_more}
 use Rattle.ta_moment_tree.proofs.vector.difference_at.Goals as goal
 

@@ -1,8 +1,6 @@
-use Rattle.ta_moment_tree.proofs.Common.{◌≡◌, ◌∙◌, inl, inr, ℕ, pos, ap, sym, arith, length, length-append, cases_lt, List, ◌∷◌, []}
-use Rattle.ta_linear.specs.declared.form.Form.{Form}
-use Rattle.ta_moments.specs.Forms.{UnknownForm, minus_form, number_form}
+use Rattle.ta_moment_tree.proofs.Common.{◌≡◌, ◌∙◌, inl, inr, ℕ, pos, ap, sym, arith, length, length-append, cases_lt, List, ◌∷◌, [], Form, UnknownForm}
+use Rattle.ta_moment_tree.proofs.Common.{minus_form, number_form, vector_of}
 use Rattle.ta_moments.specs.Moments.{fresh}
-use Rattle.ta_moment_tree.specs.Forms.{vector_of}
 use Rattle.ta_moment_tree.proofs.Vectors.{fresh_beyond, nothing_less, vector_more, vector_past, vector_same}
 use Rattle.ta_moment_tree.proofs.vector.fresh.Goals as goal
 

@@ -1,7 +1,5 @@
-use Rattle.std.proofs.Common.{◌≡◌, ℕ, ◌<◌, length}
-use Rattle.ta_moments.specs.Forms.{minus_form}
+use Rattle.ta_moment_tree.proofs.Common.{◌≡◌, ℕ, ◌<◌, length, minus_form, vector_of}
 use Rattle.ta_moments.specs.Moments.{fresh}
-use Rattle.ta_moment_tree.specs.Forms.{vector_of}
 use Rattle.ta_moment_tree.proofs.vector.fresh.Given as goal
 
 abbrev pub invariant-loop-rule : goal.invariant-loop-rule

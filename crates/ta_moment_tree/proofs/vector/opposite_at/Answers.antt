@@ -1,6 +1,4 @@
-use Rattle.ta_moment_tree.proofs.Common.{◌∙◌, ◌^◌, arith, sym, ap, subst}
-use Rattle.ta_moments.specs.Forms.{UnknownForm, opposite_form}
-use Rattle.ta_moment_tree.specs.Forms.{SmallBy}
+use Rattle.ta_moment_tree.proofs.Common.{◌∙◌, ◌^◌, arith, sym, ap, subst, UnknownForm, opposite_form, SmallBy}
 use Rattle.ta_moment_tree.proofs.Forms.{small_more}
 use Rattle.ta_moment_tree.proofs.vector.opposite_at.Goals as goal
 

@@ -1,5 +1,4 @@
-use Rattle.ta_moment_tree.proofs.Common.{◌+◌, ◌∙◌, ap}
-use Rattle.std.proofs.Math.ListN.{drop_of_length-le}
+use Rattle.ta_moment_tree.proofs.Common.{◌+◌, ◌∙◌, ap, drop_of_length-le}
 use Rattle.ta_moments.specs.Moments.{fresh}
 use Rattle.ta_moment_tree.proofs.Vectors.{fresh_at_place, fresh_next, fresh_none}
 use Rattle.ta_moment_tree.proofs.vector.place_in.Goals as goal

@@ -1,5 +1,5 @@
-use Rattle.std.proofs.Common.{◌≡◌, ℕ, ◌+◌, drop}
-use Rattle.ta_moments.specs.Moments.{Vector, fresh}
+use Rattle.ta_moment_tree.proofs.Common.{◌≡◌, ℕ, ◌+◌, drop, Vector}
+use Rattle.ta_moments.specs.Moments.{fresh}
 use Rattle.ta_moment_tree.proofs.vector.place_in.Given as goal
 
 abbrev pub invariant-loop-number : goal.invariant-loop-number

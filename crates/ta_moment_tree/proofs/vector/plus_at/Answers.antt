@@ -1,6 +1,4 @@
-use Rattle.ta_moment_tree.proofs.Common.{◌∙◌, ◌^◌, arith, sym, ap, subst}
-use Rattle.ta_moments.specs.Forms.{UnknownForm, plus_form}
-use Rattle.ta_moment_tree.specs.Forms.{SmallBy, form_of}
+use Rattle.ta_moment_tree.proofs.Common.{◌∙◌, ◌^◌, arith, sym, ap, subst, UnknownForm, plus_form, SmallBy, form_of}
 use Rattle.ta_moment_tree.proofs.Forms.{small_more}
 use Rattle.ta_moment_tree.proofs.vector.plus_at.Goals as goal
 

@@ -1,7 +1,5 @@
-use Rattle.ta_moment_tree.proofs.Common.{◌∙◌, inl, inr, ℕ, pos, ap, sym, arith, length, length-append, cases_lt, List, ◌∷◌, []}
-use Rattle.ta_linear.specs.declared.form.Form.{Form}
-use Rattle.ta_moments.specs.Forms.{UnknownForm, plus_form, number_form}
-use Rattle.ta_moment_tree.specs.Forms.{vector_of}
+use Rattle.ta_moment_tree.proofs.Common.{◌∙◌, inl, inr, ℕ, pos, ap, sym, arith, length, length-append, cases_lt, List, ◌∷◌, [], Form, UnknownForm, plus_form}
+use Rattle.ta_moment_tree.proofs.Common.{number_form, vector_of}
 use Rattle.ta_moment_tree.proofs.Vectors.{nothing_more, vector_more, vector_past, vector_same}
 use Rattle.ta_moment_tree.proofs.vector.sums.Goals as goal
 

@@ -1,6 +1,4 @@
-use Rattle.std.proofs.Common.{◌≡◌, ℕ, ◌<◌, length}
-use Rattle.ta_moments.specs.Forms.{plus_form}
-use Rattle.ta_moment_tree.specs.Forms.{vector_of}
+use Rattle.ta_moment_tree.proofs.Common.{◌≡◌, ℕ, ◌<◌, length, plus_form, vector_of}
 use Rattle.ta_moment_tree.proofs.vector.sums.Given as goal
 
 abbrev pub invariant-loop-rule : goal.invariant-loop-rule

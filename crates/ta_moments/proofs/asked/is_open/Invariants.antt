@@ -1,5 +1,4 @@
-use Rattle.std.proofs.Common.{◌≡◌, drop}
-use Rattle.ta_moments.specs.Facts.{is_open}
+use Rattle.ta_moments.proofs.Common.{◌≡◌, drop, is_open}
 use Rattle.ta_moments.proofs.asked.is_open.Given as goal
 
 abbrev pub invariant-loop-fact : goal.invariant-loop-fact

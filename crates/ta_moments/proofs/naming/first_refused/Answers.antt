@@ -1,5 +1,5 @@
-use Rattle.std.proofs.Common.{rules, tests, arith, is_some}
-use Rattle.std.proofs.lemmas.Iterator.Splits.{YieldsList-from_str_split}
+use Rattle.ta_moments.proofs.Common.{arith, YieldsList-from_str_split}
+use Rattle.std.proofs.Common.{rules, tests, is_some}
 use Rattle.std.proofs.lemmas.Iterator.Search.{find_from_yields_List}
 use Rattle.ta_moments.specs.Silent.{fault_of_name}
 use Rattle.ta_moments.proofs.naming.first_refused.Goals as goal

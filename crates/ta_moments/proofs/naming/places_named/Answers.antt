@@ -1,8 +1,6 @@
-use Rattle.std.proofs.Common.{◌≡◌, ◌∙◌, ap, sym, arith, None, Some}
+use Rattle.ta_moments.proofs.Common.{◌≡◌, ◌∙◌, ap, sym, arith, None, Some, YieldsList-from_str_split, place_named, places_named}
 use Rattle.std.specs.Str.Iter.{split_has_more, split_pattern, split_text}
 use Rattle.std.proofs.lemmas.Iterator.Consumers.{YieldsList-end}
-use Rattle.std.proofs.lemmas.Iterator.Splits.{YieldsList-from_str_split}
-use Rattle.ta_moments.specs.Silent.{place_named, places_named}
 use Rattle.ta_moments.proofs.Places.{places_next, places_skip}
 use Rattle.ta_moments.proofs.naming.places_named.Goals as goal
 

@@ -1,5 +1,4 @@
-use Rattle.std.proofs.Common.{◌≡◌, map}
-use Rattle.ta_moments.specs.Silent.{places_named}
+use Rattle.ta_moments.proofs.Common.{◌≡◌, map, places_named}
 use Rattle.ta_moments.proofs.naming.places_named.Given as goal
 
 -- the places of the names so far

@@ -1,6 +1,4 @@
-use Rattle.std.proofs.Common.{◌≡◌, ◌∙◌, ap, sym, None}
-use Rattle.std.specs.List.{position}
-use Rattle.ta_moments.specs.Silent.{subtracts}
+use Rattle.ta_moments.proofs.Common.{◌≡◌, ◌∙◌, ap, sym, None, position, subtracts}
 use Rattle.ta_moments.proofs.NoneNegative.{none_subtracted}
 use Rattle.ta_moments.proofs.subtracting.guard_that_subtracts.Goals as goal
 

@@ -1,5 +1,4 @@
-use Rattle.ta_report.proofs.Common.{◌≡◌, ◌∙◌, ◌<◌, ◌+◌, ℕ, List, Pattern, get_or, sym, ap, arith, length, array, view, view-Array, word_told}
-use Rattle.ta_report.specs.CheckJson.{told_data}
+use Rattle.ta_report.proofs.Common.{◌≡◌, ◌∙◌, ◌<◌, ◌+◌, ℕ, List, Pattern, get_or, sym, ap, arith, length, array, view, view-Array, word_told, told_data}
 use Rattle.ta_report.proofs.CheckSayings.{proofs_list, proofs_listed, proofs_count, proof_at}
 use Rattle.ta_report.proofs.JsonItems.{pushed, all_pushed}
 use Rattle.ta_report.proofs.check_object.proof_values.Goals as goal

@@ -2,10 +2,10 @@ use Rattle.ta_report.proofs.Common.{◌≡◌, ◌∙◌, ap, arith, rules, map,
 use Rattle.std.specs.Str.Iter.{split_has_more, split_pattern, split_text}
 use Rattle.std.proofs.lemmas.Iterator.Splits.{YieldsList-from_str_split}
 use Rattle.std.proofs.lemmas.Iterator.Consumers.{YieldsList-end}
-use Rattle.serde_json.specs.Data as json
 use Rattle.ta_report.proofs.JsonItems.{texts_listed, last_off, items_of_views}
-use Rattle.ta_report.proofs.object.lines_value.Goals as goal
 use Rattle.ta_base.proofs.Lists.{map-map}
+use Rattle.serde_json.specs.Data as json
+use Rattle.ta_report.proofs.object.lines_value.Goals as goal
 
 pub returns : goal.returns
 returns c =

@@ -1,7 +1,7 @@
 use Rattle.ta_report.proofs.Common.{◌≡◌, ◌∙◌, List, ℕ, ap, subst, lines_text, run_lines, run_clear, text_lines, texts_data, view}
 use Rattle.std.specs.Prelude.{IfOk}
-use Rattle.serde_json.specs.Data as json
 use Rattle.ta_report.proofs.JsonItems.{lines_back}
+use Rattle.serde_json.specs.Data as json
 use Rattle.ta_report.proofs.object.run_value.Goals as goal
 
 pub returns : goal.returns

@@ -1,7 +1,5 @@
-use Rattle.std.proofs.Common.{◌≡◌, ◌∙◌, ap, rules, string_bytes, unsigned_abs, FitsSigned}
-use Rattle.std.specs.Int.{w128}
-use Rattle.std.proofs.lemmas.Int.{to_z-of_z}
-use Rattle.std.proofs.lemmas.Result.{on_ok_weaker}
+use Rattle.ta_report.proofs.Common.{◌≡◌, ◌∙◌, ap, rules, unsigned_abs, FitsSigned, w128, to_z-of_z, on_ok_weaker}
+use Rattle.std.proofs.Common.{string_bytes}
 use Rattle.ta_report.proofs.Showing.{amount_written}
 use Rattle.ta_report.proofs.shown.show_amount.Goals as goal
 

@@ -1,5 +1,5 @@
-use Rattle.std.proofs.Common.{◌++◌, ◌∙◌, sym, ap, arith, string_bytes}
-use Rattle.ta_report.specs.Show.{mask_text}
+use Rattle.ta_report.proofs.Common.{◌++◌, ◌∙◌, sym, ap, arith, mask_text}
+use Rattle.std.proofs.Common.{string_bytes}
 use Rattle.ta_report.proofs.Showing.{none_left, set_next, unset_next}
 use Rattle.ta_report.proofs.shown.show_mask.Goals.{then-contains+in_ok-write, else-contains}
 use Rattle.ta_report.proofs.shown.show_mask.Goals as goal

@@ -1,5 +1,5 @@
-use Rattle.std.proofs.Common.{◌≡◌, ◌++◌, string_bytes}
-use Rattle.ta_report.specs.Show.{each, mask_number, mask_text}
+use Rattle.ta_report.proofs.Common.{◌≡◌, ◌++◌, each, mask_number, mask_text}
+use Rattle.std.proofs.Common.{string_bytes}
 use Rattle.ta_report.proofs.Showing.{left_of}
 use Rattle.ta_report.proofs.shown.show_mask.Given as goal
 

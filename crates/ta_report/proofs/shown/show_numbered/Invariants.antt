@@ -1,5 +1,5 @@
-use Rattle.std.proofs.Common.{◌≡◌, ◌++◌, drop, string_bytes}
-use Rattle.ta_report.specs.Show.{numbered}
+use Rattle.ta_report.proofs.Common.{◌≡◌, ◌++◌, drop, numbered}
+use Rattle.std.proofs.Common.{string_bytes}
 use Rattle.ta_report.proofs.shown.show_numbered.Given as goal
 
 abbrev pub invariant-items : goal.invariant-items

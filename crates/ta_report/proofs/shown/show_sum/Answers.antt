@@ -1,8 +1,6 @@
-use Rattle.std.proofs.Common.{List, ℕ, ℤ, ◌≡◌, ◌==◌, ◌++◌, ◌∷◌, ◌∙◌, ap, rules, string_bytes, subst, sym, unsigned_abs, FitsSigned}
-use Rattle.std.specs.Int.{w128}
-use Rattle.std.proofs.lemmas.Int.{to_z-of_z}
-use Rattle.std.proofs.lemmas.Result.{on_ok_weaker}
-use Rattle.ta_report.specs.Show.{constant_text, each, first_text, summands_text, term_text}
+use Rattle.ta_report.proofs.Common.{List, ℕ, ℤ, ◌≡◌, ◌==◌, ◌++◌, ◌∷◌, ◌∙◌, ap, rules, subst, sym, unsigned_abs, FitsSigned, w128, to_z-of_z, on_ok_weaker}
+use Rattle.ta_report.proofs.Common.{constant_text, each, first_text, summands_text, term_text}
+use Rattle.std.proofs.Common.{string_bytes}
 use Rattle.ta_report.proofs.Showing.{behind}
 use Rattle.ta_report.proofs.shown.show_sum.Goals as goal
 

@@ -1,8 +1,5 @@
-use Rattle.std.proofs.Common.{◌≡◌, ◌++◌, ◌∙◌, ap, rules, string_bytes, FitsSigned}
-use Rattle.std.specs.Int.{w128}
-use Rattle.std.proofs.lemmas.Int.{to_z-of_z}
-use Rattle.std.proofs.lemmas.Result.{on_ok_weaker}
-use Rattle.ta_report.specs.Show.{amount_text, next_sign}
+use Rattle.ta_report.proofs.Common.{◌≡◌, ◌++◌, ◌∙◌, ap, rules, FitsSigned, w128, to_z-of_z, on_ok_weaker, amount_text, next_sign}
+use Rattle.std.proofs.Common.{string_bytes}
 use Rattle.ta_report.proofs.Showing.{behind}
 use Rattle.ta_report.proofs.shown.show_term.Goals as goal
 

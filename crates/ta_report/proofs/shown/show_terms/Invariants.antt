@@ -1,5 +1,5 @@
-use Rattle.std.proofs.Common.{◌≡◌, ◌++◌, drop, string_bytes}
-use Rattle.ta_report.specs.Show.{each, term_text}
+use Rattle.ta_report.proofs.Common.{◌≡◌, ◌++◌, drop, each, term_text}
+use Rattle.std.proofs.Common.{string_bytes}
 use Rattle.ta_report.proofs.shown.show_terms.Given as goal
 
 abbrev pub invariant-loop-term : goal.invariant-loop-term

@@ -1,6 +1,4 @@
-use Rattle.std.proofs.Common.{◌≡◌, ◌++◌, take}
-use Rattle.std.specs.Prelude.{flat_map}
-use Rattle.ta_report.specs.Unknowns.{fired_names}
+use Rattle.ta_report.proofs.Common.{◌≡◌, ◌++◌, take, flat_map, fired_names}
 use Rattle.ta_report.proofs.unknowns.push_events.Given as goal
 
 abbrev pub invariant-loop-event : goal.invariant-loop-event

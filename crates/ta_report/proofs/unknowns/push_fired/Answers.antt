@@ -1,11 +1,7 @@
-use Rattle.std.proofs.Common.{ℕ, Bool, ◌++◌, ◌∷◌, [], map, ap, sym, ◌∙◌, append_assoc, slice_get}
-use Rattle.std.specs.Prelude.{filter}
-use Rattle.std.specs.List.{range_with_len}
+use Rattle.ta_report.proofs.Common.{ℕ, Bool, ◌++◌, ◌∷◌, [], map, ap, sym, ◌∙◌, append_assoc, slice_get, filter, range_with_len, is_moving, fired_name}
 use Rattle.ta_base.proofs.Ranges.{passed_none, passed_one}
-use Rattle.ta_moments.specs.Facts.{is_moving}
-use Rattle.ta_report.specs.Unknowns.{fired_name}
-use Rattle.ta_report.proofs.unknowns.push_fired.Goals as goal
 use Rattle.ta_report.proofs.unknowns.push_fired.Goals.{then-is_moving+in_ok-fired_name+in_ok-push, else-is_moving}
+use Rattle.ta_report.proofs.unknowns.push_fired.Goals as goal
 
 pub loop-rule-preserved : goal.loop-rule-preserved
 loop-rule-preserved c =

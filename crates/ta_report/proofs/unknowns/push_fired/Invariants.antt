@@ -1,8 +1,4 @@
-use Rattle.std.proofs.Common.{◌≡◌, ◌++◌, map, slice_get}
-use Rattle.std.specs.Prelude.{filter}
-use Rattle.std.specs.List.{range_with_len}
-use Rattle.ta_moments.specs.Facts.{is_moving}
-use Rattle.ta_report.specs.Unknowns.{fired_name}
+use Rattle.ta_report.proofs.Common.{◌≡◌, ◌++◌, map, slice_get, filter, range_with_len, is_moving, fired_name}
 use Rattle.ta_report.proofs.unknowns.push_fired.Given as goal
 
 abbrev pub invariant-loop-rule : goal.invariant-loop-rule

@@ -1,4 +1,4 @@
-use Rattle.std.proofs.Common.{◌≡◌, ◌++◌, take}
+use Rattle.ta_report.proofs.Common.{◌≡◌, ◌++◌, take}
 use Rattle.ta_report.proofs.unknowns.push_parameters.Given as goal
 
 abbrev pub invariant-loop-name : goal.invariant-loop-name

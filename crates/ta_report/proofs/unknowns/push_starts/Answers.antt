@@ -1,12 +1,10 @@
-use Rattle.std.proofs.Common.{ℕ, Bool, List, ◌≡◌, ◌++◌, ◌∷◌, ◌<◌, [], length, map, not, take, get_or, ap, sym, subst, ◌∙◌, arith, append_assoc}
-use Rattle.std.specs.Prelude.{filter}
+use Rattle.ta_report.proofs.Common.{ℕ, Bool, List, ◌≡◌, ◌++◌, ◌∷◌, ◌<◌, [], length, map, not, take, get_or, ap, sym, subst, ◌∙◌, arith, append_assoc, filter}
+use Rattle.ta_report.proofs.Common.{has_bit, start_name}
 use Rattle.ta_base.specs.Lists.{Rises}
-use Rattle.ta_base.specs.Masks.{has_bit}
 use Rattle.ta_base.proofs.Lists.{item_none, item_one}
 use Rattle.ta_base.proofs.Ranges.{rises_at}
-use Rattle.ta_report.specs.Unknowns.{start_name}
-use Rattle.ta_report.proofs.unknowns.push_starts.Goals as goal
 use Rattle.ta_report.proofs.unknowns.push_starts.Goals.{then-not-contains+in_ok-start_name+in_ok-push, else-not-contains}
+use Rattle.ta_report.proofs.unknowns.push_starts.Goals as goal
 
 pub contains-requires : goal.contains-requires
 contains-requires c =

@@ -1,7 +1,4 @@
-use Rattle.std.proofs.Common.{◌≡◌, ◌++◌, map, not, take}
-use Rattle.std.specs.Prelude.{filter}
-use Rattle.ta_base.specs.Masks.{has_bit}
-use Rattle.ta_report.specs.Unknowns.{start_name}
+use Rattle.ta_report.proofs.Common.{◌≡◌, ◌++◌, map, not, take, filter, has_bit, start_name}
 use Rattle.ta_report.proofs.unknowns.push_starts.Given as goal
 
 abbrev pub invariant-loop-location : goal.invariant-loop-location

@@ -1,7 +1,7 @@
-use Rattle.std.proofs.Common.{List, ℕ, ◌≡◌, ◌++◌, ◌∙◌, ap, subst, codes, string_bytes}
+use Rattle.ta_report.proofs.Common.{List, ℕ, ◌≡◌, ◌++◌, ◌∙◌, ap, subst, codes, name_text, unknown_names}
+use Rattle.std.proofs.Common.{string_bytes}
 use Rattle.std.specs.Prelude.{OnOk}
-use Rattle.ta_report.specs.Show.{listed, name_text}
-use Rattle.ta_report.specs.Unknowns.{unknown_names}
+use Rattle.ta_report.specs.Show.{listed}
 use Rattle.ta_report.proofs.unknowns.show_of_pattern.Goals as goal
 
 pub returns : goal.returns

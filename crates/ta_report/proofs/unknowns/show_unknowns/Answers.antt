@@ -1,7 +1,6 @@
-use Rattle.std.proofs.Common.{◌+◌, ◌++◌, ap, drop, string_bytes}
-use Rattle.ta_base.proofs.Lists.{next_item, piece_written}
-use Rattle.ta_report.specs.Show.{each}
-use Rattle.ta_report.specs.Unknowns.{pattern_unknowns_text}
+use Rattle.ta_report.proofs.Common.{◌+◌, ◌++◌, ap, drop, piece_written, each, pattern_unknowns_text}
+use Rattle.std.proofs.Common.{string_bytes}
+use Rattle.ta_base.proofs.Lists.{next_item}
 use Rattle.ta_report.proofs.unknowns.show_unknowns.Goals as goal
 
 pub loop-pattern-preserved : goal.loop-pattern-preserved

@@ -1,6 +1,5 @@
-use Rattle.std.proofs.Common.{◌≡◌, ◌++◌, drop, string_bytes}
-use Rattle.ta_report.specs.Show.{each}
-use Rattle.ta_report.specs.Unknowns.{pattern_unknowns_text}
+use Rattle.ta_report.proofs.Common.{◌≡◌, ◌++◌, drop, each, pattern_unknowns_text}
+use Rattle.std.proofs.Common.{string_bytes}
 use Rattle.ta_report.proofs.unknowns.show_unknowns.Given as goal
 
 abbrev pub invariant-loop-pattern : goal.invariant-loop-pattern

@@ -1,5 +1,6 @@
-use Rattle.std.proofs.Common.{List, ℕ, ◌≡◌, ◌++◌, ◌∷◌, [], ◌∙◌, ap, codes, string_bytes}
-use Rattle.ta_report.specs.Show.{condition_text, listed, location_text, name_text, row_text, rule_text, sum_text}
+use Rattle.ta_report.proofs.Common.{List, ℕ, ◌≡◌, ◌++◌, ◌∷◌, [], ◌∙◌, ap, codes, condition_text, location_text, name_text, row_text, rule_text, sum_text}
+use Rattle.std.proofs.Common.{string_bytes}
+use Rattle.ta_report.specs.Show.{listed}
 use Rattle.ta_report.proofs.Showing.{behind}
 use Rattle.ta_report.proofs.writing.show_automaton.Goals as goal
 

@@ -1,7 +1,7 @@
 use Rattle.ta_rest.proofs.Common.{◌≡◌, ◌∷◌, List, arith, subst, sym, Pattern}
 use Rattle.ta_rest.proofs.EndingShapes.{EndingsSoFar, next_few, so_far_more}
-use Rattle.ta_rest.proofs.endings.endings_of.Goals as goal
 use Rattle.ta_base.proofs.Lists.{first_removed}
+use Rattle.ta_rest.proofs.endings.endings_of.Goals as goal
 
 pub ending_of-requires : goal.ending_of-requires
 ending_of-requires c =

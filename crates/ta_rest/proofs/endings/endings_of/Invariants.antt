@@ -1,4 +1,4 @@
-use Rattle.std.proofs.Common.{length}
+use Rattle.ta_rest.proofs.Common.{length}
 use Rattle.ta_rest.proofs.EndingShapes.{EndingsSoFar}
 use Rattle.ta_rest.proofs.endings.endings_of.Given as goal
 

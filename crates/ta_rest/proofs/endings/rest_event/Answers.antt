@@ -1,4 +1,4 @@
-use Rattle.std.proofs.Common.{refl, ◌∙◌}
+use Rattle.ta_rest.proofs.Common.{refl, ◌∙◌}
 use Rattle.ta_rest.proofs.EndingShapes.{added_of}
 use Rattle.ta_rest.proofs.endings.rest_event.Goals as goal
 

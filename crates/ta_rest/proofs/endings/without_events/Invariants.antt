@@ -1,4 +1,4 @@
-use Rattle.std.proofs.Common.{ℕ, ◌<◌, IsBitSet, ◌↔◌}
+use Rattle.ta_rest.proofs.Common.{ℕ, ◌<◌, IsBitSet, ◌↔◌}
 use Rattle.ta_rest.proofs.PatternMasks.{Eventless}
 use Rattle.ta_rest.proofs.endings.without_events.Given as goal
 

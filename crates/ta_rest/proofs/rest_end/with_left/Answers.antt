@@ -1,5 +1,4 @@
-use Rattle.std.proofs.Common.{◌≡◌, inl, inr, ◌<◌, eqb, false, reverse, arith, sym, ◌∙◌}
-use Rattle.std.proofs.lemmas.Bool.Decides.{eqb_tells}
+use Rattle.ta_rest.proofs.Common.{◌≡◌, inl, inr, ◌<◌, eqb, false, reverse, arith, sym, ◌∙◌, eqb_tells}
 use Rattle.ta_rest.proofs.RestMasks.{out_of}
 use Rattle.ta_rest.proofs.rest_end.with_left.Goals as goal
 

@@ -1,5 +1,4 @@
-use Rattle.ta_rest.proofs.Common.{ℕ, List, IsBitSet, ap, subst, sym, ◌∙◌, ◌↔◌, Pattern, LoopsAlone, Endings}
-use Rattle.ta_automaton.specs.declared.file.File.{File}
+use Rattle.ta_rest.proofs.Common.{ℕ, List, IsBitSet, ap, subst, sym, ◌∙◌, ◌↔◌, Pattern, LoopsAlone, Endings, File}
 use Rattle.ta_rest.proofs.EndingShapes.{endings_last, endings_shape}
 use Rattle.ta_rest.proofs.PatternMasks.{Eventless}
 use Rattle.ta_rest.proofs.scoping.with_endings.Goals as goal

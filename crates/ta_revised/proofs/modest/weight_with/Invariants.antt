@@ -1,5 +1,4 @@
-use Rattle.std.specs.Prelude.{◌+◌, ◌≤◌, ◌≡◌, ◌^◌, drop}
-use Rattle.ta_revised.specs.Modest.{weight_of}
+use Rattle.ta_revised.proofs.Common.{◌+◌, ◌≤◌, ◌≡◌, ◌^◌, drop, weight_of}
 use Rattle.ta_revised.proofs.modest.weight_with.Given as goal
 
 abbrev pub invariant-loop-coefficient : goal.invariant-loop-coefficient

@@ -1,6 +1,5 @@
 use Rattle.ta_revised.proofs.Common.{ℕ, arith, sym, ◌∙◌, ap, subst, pos, ◌-ℤ◌, ◌*ℤ◌, ℤ, get_or, rules, to_z-of_z, ext_get_or, SFits, w16, done_more, rest_more}
-use Rattle.ta_revised.proofs.Common.{combine, CombinesIn16}
-use Rattle.ta_dense.proofs.PivotLaws.{get_or-combine, length-combine}
+use Rattle.ta_revised.proofs.Common.{combine, CombinesIn16, get_or-combine, length-combine}
 use Rattle.ta_revised.proofs.narrow_cells.combine_by.Goals as goal
 
 pub overflow_mul-cells : goal.overflow_mul-cells

@@ -1,5 +1,4 @@
-use Rattle.ta_revised.proofs.Common.{◌≡◌, ap, ◌∙◌, sym, subst, refl, ℕ, ℤ, List, pos, negsuc, to_z-of_z, SFits, of_z, to_z, w16, combine}
-use Rattle.ta_revised.specs.Bounds.{AllCombineIn16}
+use Rattle.ta_revised.proofs.Common.{◌≡◌, ap, ◌∙◌, sym, subst, refl, ℕ, ℤ, List, pos, negsuc, to_z-of_z, SFits, of_z, to_z, w16, combine, AllCombineIn16}
 use Rattle.ta_revised.proofs.narrow_cells.combine_narrow.Goals as goal
 
 -- a factor that is known by its bits

@@ -1,5 +1,4 @@
-use Rattle.ta_revised.proofs.Common.{ap, ◌∙◌, sym, drop, pos, get_or, rules, to_z-of_z, at_drop_more, SFits, w16, gcd_with}
-use Rattle.ta_dense.proofs.Divide.{gcd_with-one}
+use Rattle.ta_revised.proofs.Common.{ap, ◌∙◌, sym, drop, pos, get_or, rules, to_z-of_z, at_drop_more, SFits, w16, gcd_with, gcd_with-one}
 use Rattle.ta_revised.proofs.narrow_cells.gcd_by_cells.Goals as goal
 
 pub loop-cell-preserved : goal.loop-cell-preserved

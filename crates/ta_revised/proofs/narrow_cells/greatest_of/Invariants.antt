@@ -1,5 +1,4 @@
-use Rattle.std.proofs.Common.{ℕ, ◌<◌, ◌≤◌, ◌^◌, get_or, pos, unsigned_abs}
-use Rattle.ta_revised.specs.Bounds.{AreBounded}
+use Rattle.ta_revised.proofs.Common.{ℕ, ◌<◌, ◌≤◌, ◌^◌, get_or, pos, unsigned_abs, AreBounded}
 use Rattle.ta_revised.proofs.narrow_cells.greatest_of.Given as goal
 
 abbrev pub invariant-loop-cell : goal.invariant-loop-cell

@@ -1,6 +1,5 @@
 use Rattle.ta_revised.proofs.Common.{ℕ, arith, sym, ◌∙◌, ap, pos, neg_ℤ, ◌-ℤ◌, get_or, map, rules, subst, to_z-of_z, SFits, w16, zero_minus, done_more}
-use Rattle.ta_revised.proofs.Common.{ext_get_or, get_or-neg, length-map, rest_more}
-use Rattle.ta_base.proofs.Integers.{minus_fits}
+use Rattle.ta_revised.proofs.Common.{ext_get_or, get_or-neg, length-map, rest_more, minus_fits}
 use Rattle.ta_revised.proofs.Bounded.{IsSmall}
 use Rattle.ta_revised.proofs.narrow_cells.negate_narrow.Goals as goal
 

@@ -1,5 +1,5 @@
-use Rattle.ta_revised.proofs.Common.{◌∙◌, ap, sym, subst, arith, ℕ, ℤ, pos, ◌*ℤ◌, get_or, map, length-map, rules, to_z-of_z, to_z, SFits, w16}
-use Rattle.ta_revised.proofs.Common.{done_more, rest_more, ext_get_or}
+use Rattle.ta_revised.proofs.Common.{◌∙◌, ap, sym, subst, arith, ℕ, ℤ, pos, ◌*ℤ◌, get_or, map, length-map, rules, to_z-of_z, to_z, SFits, w16, done_more}
+use Rattle.ta_revised.proofs.Common.{rest_more, ext_get_or}
 use Rattle.ta_revised.proofs.RowCellFacts.{times_one, times_cell}
 use Rattle.ta_revised.proofs.narrow_cells.scale_narrow.Goals as goal
 

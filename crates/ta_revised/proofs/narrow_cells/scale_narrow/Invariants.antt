@@ -1,4 +1,4 @@
-use Rattle.std.proofs.Common.{◌≡◌, ℕ, ◌<◌, ◌≤◌, get_or, ◌*ℤ◌, pos}
+use Rattle.ta_revised.proofs.Common.{◌≡◌, ℕ, ◌<◌, ◌≤◌, get_or, ◌*ℤ◌, pos}
 use Rattle.ta_revised.proofs.narrow_cells.scale_narrow.Given as goal
 
 abbrev pub invariant-loop-j : goal.invariant-loop-j

@@ -1,5 +1,4 @@
-use Rattle.ta_revised.proofs.Common.{refl, rules, int_div, to_z-of_z, quot_fits, SFits, w16, pos_abs}
-use Rattle.ta_dense.proofs.RowFacts.{row_same}
+use Rattle.ta_revised.proofs.Common.{refl, rules, int_div, to_z-of_z, quot_fits, SFits, w16, pos_abs, row_same}
 use Rattle.ta_revised.proofs.narrow_rows.divide_narrow_row.Goals as goal
 
 pub returns-clause-value : goal.returns-clause-value

@@ -1,6 +1,5 @@
 use Rattle.ta_revised.proofs.Common.{◌≡◌, ◌∷◌, ap, sym, ◌∙◌, pos, unsigned_abs, ℤ, rules, to_z-of_z, SFits, to_z, w16, narrow_view, divisor_of, gcd_with}
-use Rattle.ta_revised.proofs.Common.{gcd_of_is}
-use Rattle.ta_dense.proofs.Divide.{gcd_with-one}
+use Rattle.ta_revised.proofs.Common.{gcd_of_is, gcd_with-one}
 use Rattle.ta_dense.proofs.ReduceFacts.{divisor_positive}
 use Rattle.ta_revised.proofs.narrow_rows.divisor_of_narrow.Goals as goal
 

@@ -1,10 +1,9 @@
-use Rattle.ta_revised.proofs.Common.{◌<ℤ◌, ℕ, ap, pos, ◌∙◌, sym, rules, length, to_z-of_z, SFits, of_z, to_z, subst}
-use Rattle.ta_revised.proofs.Common.{w16, narrow_view, IsNarrow, TableauRow, reduced, merged_by, cell_of}
-use Rattle.ta_dense.proofs.ProperFacts.{Factored, factored, merged_from, merged-zero}
-use Rattle.ta_dense.proofs.ReduceFacts.{factors_positive}
+use Rattle.ta_revised.proofs.Common.{◌<ℤ◌, ℕ, ap, pos, ◌∙◌, sym, rules, length, to_z-of_z, SFits, of_z, to_z, subst, w16, narrow_view, IsNarrow, TableauRow}
+use Rattle.ta_revised.proofs.Common.{reduced, merged_by, cell_of, merged-zero, factors_positive}
+use Rattle.ta_dense.proofs.ProperFacts.{Factored, factored, merged_from}
 use Rattle.ta_revised.proofs.NarrowFacts.{narrow_merged_by, narrow_reduced, narrow_itself}
-use Rattle.ta_revised.proofs.narrow_rows.merge_narrow.Goals as goal
 use Rattle.ta_revised.proofs.narrow_rows.merge_narrow.Goals.{After-narrow_factors-p, In_ok-merge_narrow_by}
+use Rattle.ta_revised.proofs.narrow_rows.merge_narrow.Goals as goal
 
 -- the two factors are those of the rows
 ours : (c : After-narrow_factors-p) → Factored c.args.column (narrow_view c.args.chosen.now) (narrow_view c.args.row.now) c.narrow_factors-p.result.0

@@ -1,6 +1,4 @@
-use Rattle.ta_revised.proofs.Common.{◌≡◌, arith, refl, ap, ◌∙◌, rules, length, set, List, ℤ, ◌*ℤ◌, to_z-of_z, SFits, w16}
-use Rattle.ta_dense.proofs.RowFacts.{row_same}
-use Rattle.ta_dense.proofs.PivotLaws.{length-combine}
+use Rattle.ta_revised.proofs.Common.{◌≡◌, arith, refl, ap, ◌∙◌, rules, length, set, List, ℤ, ◌*ℤ◌, to_z-of_z, SFits, w16, row_same, length-combine}
 use Rattle.ta_revised.proofs.Bounded.{combine_in16, cells_in16}
 use Rattle.ta_revised.proofs.narrow_rows.merge_narrow_by.Goals as goal
 

@@ -1,9 +1,8 @@
-use Rattle.ta_revised.proofs.Common.{◌≡◌, ◌<◌, ◌^◌, ap, arith, pos, ◌<ℤ◌, sym, ◌∙◌, ℕ, int_div}
-use Rattle.ta_revised.proofs.Common.{to_z-of_z, to_z_pos, quot_fits, ints, fits_signed_from_abs, SFits}
-use Rattle.ta_revised.proofs.Common.{to_z, w16, div-one, gcd_of_is, factor_divisor}
+use Rattle.ta_revised.proofs.Common.{◌≡◌, ◌<◌, ◌^◌, ap, arith, pos, ◌<ℤ◌, sym, ◌∙◌, ℕ, int_div, to_z-of_z, to_z_pos, quot_fits, ints, fits_signed_from_abs}
+use Rattle.ta_revised.proofs.Common.{SFits, to_z, w16, div-one, gcd_of_is, factor_divisor}
 use Rattle.ta_revised.proofs.Bounded.{factor_small, first_one, second_one}
-use Rattle.ta_revised.proofs.narrow_rows.narrow_factors.Goals as goal
 use Rattle.ta_revised.proofs.narrow_rows.narrow_factors.Goals.{After-gcd_narrow-divisor}
+use Rattle.ta_revised.proofs.narrow_rows.narrow_factors.Goals as goal
 
 is_divisor : (c : After-gcd_narrow-divisor) → c.gcd_narrow-divisor.result ≡ factor_divisor c.args.c c.args.a
 is_divisor c =

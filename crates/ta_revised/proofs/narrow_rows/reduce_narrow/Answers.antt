@@ -2,8 +2,8 @@ use Rattle.ta_revised.proofs.Common.{◌≡◌, arith, ap, ◌∙◌, sym, ℕ, 
 use Rattle.std.specs.Int.{w16}
 use Rattle.ta_revised.proofs.Bounded.{divisor_le}
 use Rattle.ta_dense.proofs.ReduceFacts.{divided-one}
-use Rattle.ta_revised.proofs.narrow_rows.reduce_narrow.Goals as goal
 use Rattle.ta_revised.proofs.narrow_rows.reduce_narrow.Goals.{After-divisor_of_narrow-divisor}
+use Rattle.ta_revised.proofs.narrow_rows.reduce_narrow.Goals as goal
 
 -- the divisor is below the bound
 below : (c : After-divisor_of_narrow-divisor) → c.divisor_of_narrow-divisor.result < 2 ^ 15

@@ -1,7 +1,4 @@
-use Rattle.ta_revised.proofs.Common.{arith, ◌∙◌, ap, pos, ℤ, ◌-ℤ◌, rules, set, List, to_z-of_z, SFits, w16}
-use Rattle.ta_revised.proofs.Common.{zero_minus}
-use Rattle.ta_dense.proofs.RowFacts.{row_same}
-use Rattle.ta_base.proofs.Integers.{minus_fits}
+use Rattle.ta_revised.proofs.Common.{arith, ◌∙◌, ap, pos, ℤ, ◌-ℤ◌, rules, set, List, to_z-of_z, SFits, w16, zero_minus, row_same, minus_fits}
 use Rattle.ta_revised.proofs.narrow_rows.turn_narrow.Goals as goal
 
 pub returns-clause-value : goal.returns-clause-value

@@ -1,6 +1,4 @@
-use Rattle.std.proofs.Common.{◌<◌, subst}
-use Rattle.ta_revised.specs.UnknownRows.{IsUnknownRow}
-use Rattle.ta_revised.specs.declared.unknown_rows.UnknownRow.{UnknownRow}
+use Rattle.ta_revised.proofs.Common.{◌<◌, subst, IsUnknownRow, UnknownRow}
 use Rattle.ta_revised.proofs.UnitRow.{unit_filled}
 use Rattle.ta_revised.proofs.revised.grown_row.Goals as goal
 

@@ -1,6 +1,4 @@
-use Rattle.std.proofs.Common.{◌≡◌, ◌-◌, map, take}
-use Rattle.ta_dense.specs.Inside.Padded.{zero_filled}
-use Rattle.ta_revised.specs.UnknownRows.{AreUnknownRows, unknown_rows}
+use Rattle.ta_revised.proofs.Common.{◌≡◌, ◌-◌, map, take, zero_filled, AreUnknownRows, unknown_rows}
 use Rattle.ta_revised.proofs.revised.grown_rows.Given as goal
 
 abbrev pub invariant-loop-row : goal.invariant-loop-row

@@ -1,11 +1,5 @@
-use Rattle.std.proofs.Common.{◌≡◌, ◌+◌, ◌-◌, ◌++◌, ◌∷◌, [], suc, ℕ, List, arith, ap, sym, subst, ◌∙◌, append_assoc}
-use Rattle.std.proofs.lemmas.List.{map-append}
-use Rattle.std.proofs.lemmas.List.Elements.{All-push}
-use Rattle.ta_dense.specs.Tableau.{TableauRow}
-use Rattle.ta_revised.specs.Revised.{unit_rows}
-use Rattle.ta_revised.specs.UnknownRows.{AreUnknownRows, IsUnknownRow, unknown_row, unknown_rows, unit_row}
-use Rattle.ta_revised.specs.declared.unknown_rows.UnknownRow.{UnknownRow}
-use Rattle.ta_revised.specs.declared.unknown_rows.UnknownRow.TheVariants.{Column}
+use Rattle.ta_revised.proofs.Common.{◌≡◌, ◌+◌, ◌-◌, ◌++◌, ◌∷◌, [], suc, ℕ, List, arith, ap, sym, subst, ◌∙◌, append_assoc, map-append, All-push, TableauRow}
+use Rattle.ta_revised.proofs.Common.{unit_rows, AreUnknownRows, IsUnknownRow, unknown_row, unknown_rows, unit_row, UnknownRow, Column}
 use Rattle.ta_revised.proofs.UnitRow.{unit_rows_more}
 use Rattle.ta_revised.proofs.revised.push_units.Goals as goal
 

@@ -1,6 +1,4 @@
-use Rattle.std.proofs.Common.{◌≡◌, ◌-◌, ◌++◌}
-use Rattle.ta_revised.specs.UnknownRows.{AreUnknownRows, unknown_rows}
-use Rattle.ta_revised.specs.Revised.{unit_rows}
+use Rattle.ta_revised.proofs.Common.{◌≡◌, ◌-◌, ◌++◌, AreUnknownRows, unknown_rows, unit_rows}
 use Rattle.ta_revised.proofs.revised.push_units.Given as goal
 
 abbrev pub invariant-loop-unknown : goal.invariant-loop-unknown

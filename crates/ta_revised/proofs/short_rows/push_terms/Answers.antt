@@ -1,4 +1,4 @@
-use Rattle.std.proofs.Common.{pos, ℤ, ℕ, List, ◌+◌, subst, sym}
+use Rattle.ta_revised.proofs.Common.{pos, ℤ, ℕ, List, ◌+◌, subst, sym}
 use Rattle.ta_revised.proofs.ShortFacts.{TermsWritten, one_written}
 use Rattle.ta_revised.proofs.short_rows.push_terms.Goals as goal
 

@@ -1,6 +1,4 @@
-use Rattle.std.proofs.Common.{get_or, pos}
-use Rattle.std.proofs.lemmas.Int.{to_z-of_z}
-use Rattle.std.specs.Int.{w64}
+use Rattle.ta_revised.proofs.Common.{get_or, pos, to_z-of_z, w64}
 use Rattle.ta_revised.proofs.RowValues.{SmallTerm, computed_term, row_next, small_term, sum_fits, term_fits}
 use Rattle.ta_revised.proofs.short_rows.row_value_of.Goals as goal
 

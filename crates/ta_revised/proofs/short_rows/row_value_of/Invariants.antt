@@ -1,4 +1,4 @@
-use Rattle.std.specs.Prelude.{drop}
+use Rattle.ta_revised.proofs.Common.{drop}
 use Rattle.ta_revised.proofs.RowValues.{RowSumming}
 use Rattle.ta_revised.proofs.short_rows.row_value_of.Given as goal
 

@@ -1,6 +1,4 @@
-use Rattle.std.proofs.Common.{◌≡◌, refl, rules, set, ◌+ℤ◌, pos, get_or}
-use Rattle.std.proofs.lemmas.Int.{to_z-of_z}
-use Rattle.ta_dense.proofs.RowFacts.{row_same}
+use Rattle.ta_revised.proofs.Common.{◌≡◌, refl, rules, set, ◌+ℤ◌, pos, get_or, to_z-of_z, row_same}
 use Rattle.ta_revised.proofs.SlackFacts.{narrow_plus_cell}
 use Rattle.ta_revised.proofs.slack.add_cell.Goals as goal
 

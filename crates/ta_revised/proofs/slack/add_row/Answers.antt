@@ -1,14 +1,6 @@
-use Rattle.std.proofs.Common.{ap, refl, rules, sym, ◌∙◌, ◌-ℤ◌, pos}
-use Rattle.std.proofs.lemmas.Int.{to_z-of_z}
-use Rattle.ta_base.proofs.Integers.{zero_minus}
-use Rattle.ta_dense.proofs.RowFacts.{row_same}
-use Rattle.ta_dense.specs.Tableau.{TableauRow}
-use Rattle.ta_revised.specs.Narrow.{narrow_view}
-use Rattle.ta_revised.specs.Slack.{plus_row}
+use Rattle.ta_revised.proofs.Common.{ap, refl, rules, sym, ◌∙◌, ◌-ℤ◌, pos, to_z-of_z, zero_minus, row_same, TableauRow, narrow_view, plus_row, w16, SFits}
 use Rattle.ta_revised.proofs.SlackFacts.{narrow_plus_row, product_fits, sum_fits, all_combine_fit}
 use Rattle.ta_revised.proofs.slack.add_row.Goals as goal
-use mir.Syntax.{w16}
-use mir.Val.{SFits}
 
 pub overflow_mul-sum : goal.overflow_mul-sum
 overflow_mul-sum c =

@@ -1,15 +1,8 @@
-use Rattle.std.proofs.Common.{◌≡◌, ◌<◌, refl, rules, length, subst}
-use Rattle.std.proofs.lemmas.Int.{to_z-of_z}
+use Rattle.ta_revised.proofs.Common.{◌≡◌, ◌<◌, refl, rules, length, subst, to_z-of_z, TableauRow, narrow_view, IsNarrow, UnknownRow, IsUnknownRow, w16, SFits}
 use Rattle.std.specs.Prelude.{IfOk}
 use Rattle.std.specs.Bool.{OnTrue}
-use Rattle.ta_dense.specs.Tableau.{TableauRow}
-use Rattle.ta_revised.specs.Narrow.{narrow_view, IsNarrow}
-use Rattle.ta_revised.specs.declared.unknown_rows.UnknownRow.{UnknownRow}
-use Rattle.ta_revised.specs.UnknownRows.{IsUnknownRow}
 use Rattle.ta_revised.proofs.SlackFacts.{column_added, basic_added}
 use Rattle.ta_revised.proofs.slack.add_term.Goals as goal
-use mir.Syntax.{w16}
-use mir.Val.{SFits}
 
 pub returns-in-Some-clause-value : goal.returns-in-Some-clause-value
 returns-in-Some-clause-value c =

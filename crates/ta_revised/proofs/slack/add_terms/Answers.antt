@@ -1,10 +1,7 @@
-use Rattle.std.proofs.Common.{length, rules, pos, get_or}
-use Rattle.std.proofs.lemmas.Int.{to_z-of_z}
-use Rattle.ta_revised.specs.Narrow.{narrow_view}
+use Rattle.ta_revised.proofs.Common.{length, rules, pos, get_or, to_z-of_z, narrow_view, SFits}
 use Rattle.ta_revised.proofs.SlackFacts.{add-inside, add-row, add-more}
-use Rattle.ta_revised.proofs.slack.add_terms.Goals as goal
 use mir.Syntax.{w128}
-use mir.Val.{SFits}
+use Rattle.ta_revised.proofs.slack.add_terms.Goals as goal
 
 pub bounds-rows-unknown : goal.bounds-rows-unknown
 bounds-rows-unknown c =

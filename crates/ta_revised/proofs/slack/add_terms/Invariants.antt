@@ -1,5 +1,4 @@
-use Rattle.std.proofs.Common.{length, drop}
-use Rattle.ta_revised.specs.Narrow.{narrow_view}
+use Rattle.ta_revised.proofs.Common.{length, drop, narrow_view}
 use Rattle.ta_revised.proofs.SlackFacts.{Adding}
 use Rattle.ta_revised.proofs.slack.add_terms.Given as goal
 

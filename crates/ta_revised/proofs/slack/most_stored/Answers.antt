@@ -1,4 +1,4 @@
-use Rattle.std.proofs.Common.{pos, length}
+use Rattle.ta_revised.proofs.Common.{pos, length}
 use Rattle.ta_revised.proofs.SlackFacts.{term_inside}
 use Rattle.ta_revised.proofs.slack.most_stored.Goals as goal
 

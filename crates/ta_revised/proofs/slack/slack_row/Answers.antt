@@ -1,9 +1,7 @@
-use Rattle.std.proofs.Common.{rules}
-use Rattle.std.proofs.lemmas.Int.{to_z-of_z}
+use Rattle.ta_revised.proofs.Common.{rules, to_z-of_z, SFits}
 use Rattle.ta_revised.proofs.SlackFacts.{summed}
-use Rattle.ta_revised.proofs.slack.slack_row.Goals as goal
 use mir.Syntax.{w128}
-use mir.Val.{SFits}
+use Rattle.ta_revised.proofs.slack.slack_row.Goals as goal
 
 pub returns-clause-value : goal.returns-clause-value
 returns-clause-value c =

@@ -1,4 +1,4 @@
-use Rattle.std.proofs.Common.{arith}
+use Rattle.ta_revised.proofs.Common.{arith}
 use Rattle.ta_revised.proofs.BasicLists.{listed_all, listed_more, listed_none}
 use Rattle.ta_revised.proofs.unknown_rows.basic_unknowns.Goals as goal
 

@@ -1,5 +1,4 @@
-use Rattle.std.proofs.Common.{inl, length}
-use Rattle.ta_revised.specs.Narrow.{narrow_view}
+use Rattle.ta_revised.proofs.Common.{inl, length, narrow_view}
 use Rattle.ta_revised.proofs.UnitRow.{unit_stays}
 use Rattle.ta_revised.proofs.unknown_rows.merge_row.Goals as goal
 

@@ -1,10 +1,6 @@
-use Rattle.std.proofs.Common.{◌≡◌, arith, ap, refl, sym, ◌∙◌, length, get_or, set, subst}
-use Rattle.std.proofs.lemmas.List.{length-map, length-set, map-set, get_or-map}
-use Rattle.std.proofs.lemmas.List.Elements.{All-set}
-use Rattle.ta_base.proofs.Lists.{rest_more}
-use Rattle.ta_dense.specs.Tableau.{TableauRow, no_row}
-use Rattle.ta_revised.specs.Narrow.{narrow_view}
-use Rattle.ta_revised.specs.UnknownRows.{IsAfter, IsUnknownRow, unknown_row, unknown_rows}
+use Rattle.ta_revised.proofs.Common.{◌≡◌, arith, ap, refl, sym, ◌∙◌, length, get_or, set, subst, length-map, length-set, get_or-map, All-set, rest_more}
+use Rattle.ta_revised.proofs.Common.{TableauRow, no_row, narrow_view, IsAfter, IsUnknownRow, unknown_row, unknown_rows}
+use Rattle.std.proofs.lemmas.List.{map-set}
 use Rattle.ta_revised.proofs.BasicLists.{listed_all, listed_more, listed_none, listed_set}
 use Rattle.ta_revised.proofs.UnknownRowSteps.{after_more}
 use Rattle.ta_revised.proofs.unknown_rows.merge_rows.Goals as goal

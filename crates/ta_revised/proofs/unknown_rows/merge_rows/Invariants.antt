@@ -1,7 +1,4 @@
-use Rattle.std.proofs.Common.{◌≡◌, ◌≤◌, ℕ, length, get_or}
-use Rattle.ta_revised.specs.Narrow.{narrow_view}
-use Rattle.ta_revised.specs.UnknownRows.{AreUnknownRows, unknown_rows}
-use Rattle.ta_revised.specs.declared.unknown_rows.UnknownRow.{UnknownRow}
+use Rattle.ta_revised.proofs.Common.{◌≡◌, ◌≤◌, ℕ, length, get_or, narrow_view, AreUnknownRows, unknown_rows, UnknownRow}
 use Rattle.ta_revised.proofs.BasicLists.{ListedBelow}
 use Rattle.ta_revised.proofs.UnknownRowSteps.{AfterBelow}
 use Rattle.ta_revised.proofs.unknown_rows.merge_rows.Given as goal

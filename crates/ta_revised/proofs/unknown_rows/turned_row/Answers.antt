@@ -1,5 +1,4 @@
-use Rattle.std.proofs.Common.{◌∙◌, ap, length}
-use Rattle.ta_dense.specs.Tableau.{turned}
+use Rattle.ta_revised.proofs.Common.{◌∙◌, ap, length, turned}
 use Rattle.ta_revised.proofs.NarrowFacts.{narrow_turned}
 use Rattle.ta_revised.proofs.unknown_rows.turned_row.Goals as goal
 

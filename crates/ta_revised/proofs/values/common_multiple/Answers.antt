@@ -1,7 +1,5 @@
-use Rattle.std.proofs.Common.{arith, ℕ, sym, subst}
-use Rattle.std.proofs.Math.Nat.{one-dvd, mul-pos}
-use Rattle.std.proofs.lemmas.Nat.Gcd.{dvd_of_mod-eq-zero, dvd_refl, le_of_dvd}
-use Rattle.std.specs.Int.{◌∣◌}
+use Rattle.ta_revised.proofs.Common.{arith, ℕ, sym, subst, one-dvd, dvd_of_mod-eq-zero, dvd_refl, le_of_dvd, ◌∣◌}
+use Rattle.std.proofs.Math.Nat.{mul-pos}
 use Rattle.ta_revised.proofs.ScaleFacts.{divisor_above, divides_multiple, quotient_above}
 use Rattle.ta_revised.proofs.values.common_multiple.Goals as goal
 

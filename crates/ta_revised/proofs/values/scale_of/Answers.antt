@@ -1,4 +1,4 @@
-use Rattle.std.proofs.Common.{arith}
+use Rattle.ta_revised.proofs.Common.{arith}
 use Rattle.ta_revised.proofs.ScaleFacts.{all_divide, listed_divide}
 use Rattle.ta_revised.proofs.values.scale_of.Goals as goal
 

@@ -1,4 +1,4 @@
-use Rattle.std.specs.Prelude.{◌<◌, ◌^◌}
+use Rattle.ta_revised.proofs.Common.{◌<◌, ◌^◌}
 use Rattle.ta_revised.proofs.ScaleFacts.{ListedDivide}
 use Rattle.ta_revised.proofs.values.scale_of.Given as goal
 

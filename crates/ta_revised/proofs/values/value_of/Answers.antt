@@ -1,9 +1,7 @@
-use Rattle.std.proofs.Common.{◌≤◌, ◌≡◌, ◌^◌, ◌*ℤ◌, FitsSigned, arith, of_z, pos, rules, subst, to_z, unsigned_abs}
-use Rattle.std.proofs.lemmas.Int.{fits_signed_from_abs, to_z-of_z}
-use Rattle.std.specs.Int.{◌∣◌, w16, w64}
-use Rattle.ta_revised.specs.Narrow.{IsNarrow}
-use Rattle.ta_revised.specs.UnknownRows.{IsUnknownRow, unknown_row}
-use Rattle.ta_revised.specs.declared.unknown_rows.UnknownRow.{UnknownRow}
+use Rattle.ta_revised.proofs.Common.{◌≤◌, ◌≡◌, ◌^◌, ◌*ℤ◌, FitsSigned, arith, pos, rules, subst, unsigned_abs, fits_signed_from_abs, to_z-of_z, ◌∣◌, w64}
+use Rattle.ta_revised.proofs.Common.{IsNarrow, IsUnknownRow, unknown_row, UnknownRow}
+use Rattle.std.proofs.Common.{of_z, to_z}
+use Rattle.std.specs.Int.{w16}
 use Rattle.ta_revised.proofs.ScaleFacts.{computed_quotient, scaled_value, quotient_small}
 use Rattle.ta_revised.proofs.values.value_of.Goals as goal
 

@@ -1,9 +1,5 @@
-use Rattle.std.proofs.Common.{arith, subst, unsigned_abs, FitsSigned, length, get_or, refl}
-use Rattle.std.proofs.lemmas.Int.{fits_signed_from_abs, to_z-of_z}
-use Rattle.std.proofs.lemmas.List.{length-map}
-use Rattle.std.specs.Int.{◌∣◌, w64}
-use Rattle.ta_dense.specs.Tableau.{TableauRow}
-use Rattle.ta_revised.specs.UnknownRows.{unknown_row}
+use Rattle.ta_revised.proofs.Common.{arith, subst, unsigned_abs, FitsSigned, length, get_or, refl, fits_signed_from_abs, to_z-of_z, length-map, ◌∣◌, w64}
+use Rattle.ta_revised.proofs.Common.{TableauRow, unknown_row}
 use Rattle.ta_revised.proofs.ScaleFacts.{unknown_at, values_all, values_more, values_none}
 use Rattle.ta_revised.proofs.values.values_of.Goals as goal
 

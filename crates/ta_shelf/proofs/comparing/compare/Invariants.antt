@@ -1,4 +1,4 @@
-use Rattle.std.proofs.Common.{◌≤◌, ◌-◌, length, take}
+use Rattle.ta_shelf.proofs.Common.{◌≤◌, ◌-◌, length, take}
 use Rattle.ta_shelf.proofs.ReadSoFar.{Kept}
 use Rattle.ta_shelf.proofs.comparing.compare.Given as goal
 

@@ -1,4 +1,4 @@
-use Rattle.std.proofs.Common.{length}
+use Rattle.ta_shelf.proofs.Common.{length}
 use Rattle.ta_shelf.proofs.putting.+put_all.Given as goal
 
 -- the files that are left

@@ -1,5 +1,5 @@
+use Rattle.ta_shelf.proofs.Common.{take_all}
 use Rattle.ta_shelf.proofs.ShellCommon.{◌≡◌, ◌∙◌, ◌++◌, List, ℕ, ap, append-nil, concat, refl, sym, take, added, puts}
-use Rattle.std.proofs.lemmas.List.{take_all}
 use Rattle.ta_shelf.proofs.OutputCalls.{added_more, grown_more, refused_adding}
 use Rattle.ta_shelf.proofs.putting.add_pieces.Goals as goal
 

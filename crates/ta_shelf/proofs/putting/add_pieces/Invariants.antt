@@ -1,4 +1,4 @@
-use Rattle.std.specs.List.{concat}
+use Rattle.ta_shelf.proofs.Common.{concat}
 use Rattle.ta_shelf.proofs.ShellCommon.{◌≡◌, ◌++◌, take, puts, added}
 use Rattle.ta_shelf.proofs.putting.add_pieces.Given as goal
 

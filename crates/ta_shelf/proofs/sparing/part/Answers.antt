@@ -1,4 +1,4 @@
-use Rattle.std.specs.Prelude.{false, true}
+use Rattle.ta_shelf.proofs.Common.{false, true}
 use Rattle.ta_shelf.proofs.ShellCommon.{Err, refl, rules, arith, Memory, ReadFailed}
 use Rattle.ta_shelf.proofs.Parted.{asked_place, untold_place}
 use Rattle.ta_shelf.proofs.sparing.part.Goals as goal

@@ -1,5 +1,5 @@
+use Rattle.ta_shelf.proofs.Common.{holds_read}
 use Rattle.ta_shelf.proofs.ShellCommon.{may_put, option_map}
-use Rattle.ta_shelf.specs.Lines.{holds_read}
 use Rattle.ta_shelf.proofs.Compared.{compares_both}
 use Rattle.ta_shelf.proofs.sparing.spare_each.Goals as goal
 

@@ -1,4 +1,4 @@
-use Rattle.std.specs.List.{concat}
+use Rattle.ta_shelf.proofs.Common.{concat}
 use Rattle.ta_shelf.proofs.ShellCommon.{◌≡◌, ◌++◌, ℕ, List, take, Begun, StagedSoFar}
 use Rattle.ta_shelf.proofs.staged_file.add_texts_to_file.Given as goal
 

@@ -1,6 +1,5 @@
 use Rattle.ta_simplex.proofs.Common.{◌≡◌, ◌<◌, ◌+◌, length, pos, neg_ℤ, ◌-ℤ◌, arith, rules, sym, ap, ◌∙◌, refl, subst, to_z-of_z, ints, with_items_is, SFits}
-use Rattle.ta_simplex.proofs.Common.{w128, zero_minus, InRange, variables, replicate}
-use Rattle.ta_base.proofs.Integers.{minus_fits}
+use Rattle.ta_simplex.proofs.Common.{w128, zero_minus, InRange, variables, replicate, minus_fits}
 use Rattle.ta_simplex.proofs.SlotLemmas.{Filled, fill-first, fill-next}
 use Rattle.ta_simplex.proofs.multipliers.slack_multipliers.Goals as goal
 

@@ -1,4 +1,4 @@
-use Rattle.std.proofs.Common.{length}
+use Rattle.ta_simplex.proofs.Common.{length}
 use Rattle.ta_simplex.proofs.SlotLemmas.{Filled}
 use Rattle.ta_simplex.proofs.multipliers.slack_multipliers.Given as goal
 

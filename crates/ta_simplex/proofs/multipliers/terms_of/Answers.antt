@@ -1,7 +1,7 @@
 use Rattle.ta_simplex.proofs.Common.{◌+◌, ℕ, ℤ, get_or, pos, rules, sym, ap, subst, Vec, Global, to_z-of_z, SFits, of_z, w128, ListsSlots, zero_from_bits}
 use Rattle.ta_simplex.proofs.SlotLemmas.{list-more, list-skip}
-use Rattle.ta_simplex.proofs.multipliers.terms_of.Goals as goal
 use Rattle.ta_simplex.proofs.multipliers.terms_of.Goals.{then-multipliers-row-ne0+in_ok-push, else-multipliers-row-ne0}
+use Rattle.ta_simplex.proofs.multipliers.terms_of.Goals as goal
 
 pub loop-row-preserved : goal.loop-row-preserved
 loop-row-preserved c =

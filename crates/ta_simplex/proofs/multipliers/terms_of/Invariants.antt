@@ -1,4 +1,4 @@
-use Rattle.ta_simplex.specs.Inside.Slots.{ListsSlots}
+use Rattle.ta_simplex.proofs.Common.{ListsSlots}
 use Rattle.ta_simplex.proofs.multipliers.terms_of.Given as goal
 
 abbrev pub invariant-loop-row : goal.invariant-loop-row

@@ -1,4 +1,4 @@
-use Rattle.std.proofs.Common.{map, length, arith}
+use Rattle.ta_simplex.proofs.Common.{map, length, arith}
 use Rattle.ta_simplex.proofs.RunSteps.{step_follows, step_falls, step_overflows, step_goes_on}
 use Rattle.ta_simplex.proofs.pivots.run.Goals as goal
 

@@ -1,8 +1,5 @@
-use Rattle.ta_simplex.proofs.Common.{◌≡◌, ◌<◌, ◌+◌, length, pos, neg_ℤ, ◌-ℤ◌, arith, rules, sym, ap, ◌∙◌, subst, to_z-of_z, with_items_is, SFits}
-use Rattle.ta_simplex.proofs.Common.{w128, zero_minus, InRange, replicate, length-replicate}
-use Rattle.std.specs.Int.{w16}
-use Rattle.ta_base.proofs.Integers.{minus_fits}
-use Rattle.ta_revised.specs.Narrow.{narrow_view}
+use Rattle.ta_simplex.proofs.Common.{◌≡◌, ◌<◌, ◌+◌, length, pos, neg_ℤ, ◌-ℤ◌, arith, rules, sym, ap, ◌∙◌, subst, to_z-of_z, with_items_is, SFits, w128}
+use Rattle.ta_simplex.proofs.Common.{zero_minus, InRange, replicate, length-replicate, w16, minus_fits, narrow_view}
 use Rattle.ta_simplex.proofs.SlotLemmas.{Filled, length-put}
 use Rattle.ta_simplex.proofs.RevisedSlots.{slots_first, slots_next, slots_last}
 use Rattle.ta_simplex.proofs.revised_ends.revised_slots.Goals as goal

@@ -1,6 +1,4 @@
-use Rattle.ta_simplex.proofs.Common.{ℕ, ◌≡◌, length, Tableau}
-use Rattle.ta_revised.specs.Narrow.{narrow_view}
-use Rattle.ta_simplex.specs.RevisedRuns.{IsStuckAt}
+use Rattle.ta_simplex.proofs.Common.{ℕ, ◌≡◌, length, Tableau, narrow_view, IsStuckAt}
 use Rattle.ta_simplex.proofs.SlotLemmas.{Filled}
 use Rattle.ta_simplex.proofs.revised_ends.revised_slots.Given as goal
 

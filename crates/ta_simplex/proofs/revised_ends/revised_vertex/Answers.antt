@@ -1,6 +1,4 @@
-use Rattle.ta_simplex.proofs.Common.{◌+◌, rules, subst, sym, SFits, w128, to_z-of_z}
-use Rattle.std.specs.Int.{w16}
-use Rattle.ta_simplex.specs.RevisedRuns.{AreRevisedValues}
+use Rattle.ta_simplex.proofs.Common.{◌+◌, rules, subst, sym, SFits, w128, to_z-of_z, w16, AreRevisedValues}
 use Rattle.ta_simplex.proofs.RevisedSlots.{values-push}
 use Rattle.ta_simplex.proofs.revised_ends.revised_vertex.Goals as goal
 

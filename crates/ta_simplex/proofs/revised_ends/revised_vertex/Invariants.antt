@@ -1,4 +1,4 @@
-use Rattle.ta_simplex.specs.RevisedRuns.{AreRevisedValues}
+use Rattle.ta_simplex.proofs.Common.{AreRevisedValues}
 use Rattle.ta_simplex.proofs.revised_ends.revised_vertex.Given as goal
 
 abbrev pub invariant-loop-unknown : goal.invariant-loop-unknown

@@ -1,10 +1,6 @@
-use Rattle.ta_simplex.proofs.Common.{◌≡◌, Option, length, set, subst, Tableau}
+use Rattle.ta_simplex.proofs.Common.{◌≡◌, Option, length, set, subst, Tableau, AreAfter, narrow_view, LeavingIs, IsRowOf, revised_laws}
 use Rattle.std.specs.Prelude.{IfSome}
 use Rattle.ta_revised.specs.declared.narrow_rows.NarrowRow.{NarrowRow}
-use Rattle.ta_revised.specs.UnknownRows.{AreAfter}
-use Rattle.ta_revised.specs.Narrow.{narrow_view}
-use Rattle.ta_revised.specs.Chosen.{LeavingIs, IsRowOf}
-use Rattle.ta_revised.proofs.RevisedLaws.{revised_laws}
 use Rattle.ta_simplex.proofs.RevisedSteps.{leaving_row, next_under_way, refuted_end, stuck_at, vertex_end}
 use Rattle.ta_simplex.proofs.revised_run.next_step.Goals as goal
 

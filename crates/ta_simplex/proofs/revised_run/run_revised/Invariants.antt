@@ -1,5 +1,4 @@
-use Rattle.ta_revised.specs.Negative.{FirstHold}
-use Rattle.ta_simplex.specs.RevisedRuns.{IsUnderWay}
+use Rattle.ta_simplex.proofs.Common.{FirstHold, IsUnderWay}
 use Rattle.ta_simplex.proofs.revised_run.run_revised.Given as goal
 
 abbrev pub invariant-loop-pivots : goal.invariant-loop-pivots

@@ -1,4 +1,4 @@
-use Rattle.ta_simplex.specs.Vertex.{AreZeros}
+use Rattle.ta_simplex.proofs.Common.{AreZeros}
 use Rattle.ta_simplex.proofs.vertex.zeros.Given as goal
 
 abbrev pub invariant-loop-unknown : goal.invariant-loop-unknown

@@ -1,4 +1,4 @@
-use Rattle.std.proofs.Common.{length}
+use Rattle.ta_syntax.proofs.Common.{length}
 use Rattle.ta_syntax.proofs.ListSteps.{BlocksSoFar}
 use Rattle.ta_syntax.proofs.blocks.read_blocks.Given as goal
 

@@ -1,9 +1,7 @@
-use Rattle.ta_syntax.proofs.Common.{◌∙◌, err_is}
-use Rattle.ta_syntax.specs.FileGrammar.{a_mark, declared_list, list_end}
-use Rattle.ta_syntax.specs.Productions.{choose, only}
-use Rattle.ta_syntax.specs.declared.tokens.Mark.TheVariants as mark
+use Rattle.ta_syntax.proofs.Common.{◌∙◌, err_is, a_mark, declared_list, list_end, choose, only}
 use Rattle.ta_syntax.proofs.ClauseSteps.{declared_absent, took_declared}
 use Rattle.ta_syntax.proofs.Steps.{then, past, take_mark, mark_stops, not_chosen, other_mark, halts_by, stops_first}
+use Rattle.ta_syntax.specs.declared.tokens.Mark.TheVariants as mark
 use Rattle.ta_syntax.proofs.clauses.read_declared.Goals as goal
 
 pub returns-in_err-inner : goal.returns-in_err-inner

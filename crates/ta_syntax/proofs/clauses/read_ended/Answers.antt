@@ -1,7 +1,7 @@
-use Rattle.ta_syntax.proofs.Common.{◌∙◌, err_is}
+use Rattle.ta_syntax.proofs.Common.{◌∙◌, err_is, list_end}
 use Rattle.ta_syntax.proofs.ClauseSteps.{ended_absent, took_ended}
 use Rattle.ta_syntax.proofs.Steps.{maybe_taken, halts_by}
-use Rattle.ta_syntax.specs.FileGrammar.{ended, list_end}
+use Rattle.ta_syntax.specs.FileGrammar.{ended}
 use Rattle.ta_syntax.proofs.clauses.read_ended.Goals as goal
 
 pub returns-in_default : goal.returns-in_default

@@ -1,7 +1,7 @@
-use Rattle.ta_syntax.proofs.Common.{◌∙◌, err_is}
+use Rattle.ta_syntax.proofs.Common.{◌∙◌, err_is, items}
 use Rattle.ta_syntax.proofs.ClauseSteps.{led_absent, took_led}
 use Rattle.ta_syntax.proofs.Steps.{maybe_taken, halts_by}
-use Rattle.ta_syntax.specs.FileGrammar.{led, items}
+use Rattle.ta_syntax.specs.FileGrammar.{led}
 use Rattle.ta_syntax.proofs.clauses.read_led.Goals as goal
 
 pub returns-in_default : goal.returns-in_default

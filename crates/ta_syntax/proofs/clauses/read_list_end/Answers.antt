@@ -1,7 +1,6 @@
-use Rattle.std.proofs.result.Match.{err_is}
-use Rattle.ta_syntax.specs.FileGrammar.{a_mark, items, list_end}
-use Rattle.ta_syntax.specs.declared.tokens.Mark.TheVariants as mark
+use Rattle.ta_syntax.proofs.Common.{err_is, a_mark, items, list_end}
 use Rattle.ta_syntax.proofs.Steps.{then, past, take_mark, mark_stops, halts_by, stops_first}
+use Rattle.ta_syntax.specs.declared.tokens.Mark.TheVariants as mark
 use Rattle.ta_syntax.proofs.clauses.read_list_end.Goals as goal
 
 pub returns-in_err-items : goal.returns-in_err-items

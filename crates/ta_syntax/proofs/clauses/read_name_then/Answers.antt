@@ -1,6 +1,4 @@
-use Rattle.std.proofs.result.Match.{err_is}
-use Rattle.ta_syntax.specs.Productions.{both}
-use Rattle.ta_syntax.specs.FileGrammar.{a_mark, a_name}
+use Rattle.ta_syntax.proofs.Common.{err_is, both, a_mark, a_name}
 use Rattle.ta_syntax.proofs.Steps.{then, past, take_name, take_mark, name_stops, mark_stops, halts_by, stops_first}
 use Rattle.ta_syntax.proofs.clauses.read_name_then.Goals as goal
 

@@ -1,11 +1,8 @@
-use Rattle.ta_syntax.proofs.Common.{refl, ap, inl, inr, ◌≡◌, ◌∙◌, [], List, Token, err_is, nil_from_length}
-use Rattle.ta_base.specs.declared.limits.Limits.{Limits}
-use Rattle.ta_syntax.specs.FileGrammar as grammar
-use Rattle.ta_syntax.specs.FileReading.{body}
-use Rattle.ta_syntax.specs.Productions.{Production, both, nothing, parse}
-use Rattle.ta_syntax.specs.declared.tokens.Mark.TheVariants as mark
+use Rattle.ta_syntax.proofs.Common.{refl, ap, inl, inr, ◌≡◌, ◌∙◌, [], List, Token, err_is, nil_from_length, Limits, body, Production, both, nothing, parse}
 use Rattle.ta_syntax.proofs.FileSteps.{to_end}
 use Rattle.ta_syntax.proofs.Steps.{then, past, halts_by, halts_in, stops_first}
+use Rattle.ta_syntax.specs.FileGrammar as grammar
+use Rattle.ta_syntax.specs.declared.tokens.Mark.TheVariants as mark
 use Rattle.ta_syntax.proofs.file.read_body.Goals as goal
 
 abbrev all_rules : Limits → Production

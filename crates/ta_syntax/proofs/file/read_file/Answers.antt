@@ -1,8 +1,7 @@
-use Rattle.ta_syntax.proofs.Common.{err_is}
-use Rattle.ta_syntax.specs.FileGrammar as grammar
-use Rattle.ta_syntax.specs.FileReading.{body}
+use Rattle.ta_syntax.proofs.Common.{err_is, body}
 use Rattle.ta_syntax.proofs.Steps.{then, past, stops_first}
 use Rattle.ta_syntax.proofs.FileSteps.{body_stops, file_placed, file_spelled, file_stops, file_within}
+use Rattle.ta_syntax.specs.FileGrammar as grammar
 use Rattle.ta_syntax.proofs.file.read_file.Goals as goal
 
 pub returns-in_err-head : goal.returns-in_err-head

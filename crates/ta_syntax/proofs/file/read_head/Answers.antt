@@ -1,7 +1,6 @@
-use Rattle.ta_syntax.proofs.Common.{err_is}
-use Rattle.ta_syntax.specs.FileGrammar as grammar
-use Rattle.ta_syntax.specs.FileReading.{places}
+use Rattle.ta_syntax.proofs.Common.{err_is, places}
 use Rattle.ta_syntax.proofs.Steps.{then, halts_by}
+use Rattle.ta_syntax.specs.FileGrammar as grammar
 use Rattle.ta_syntax.proofs.file.read_head.Goals as goal
 
 pub returns-in_err-names : goal.returns-in_err-names

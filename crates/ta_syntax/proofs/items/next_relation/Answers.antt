@@ -1,4 +1,4 @@
-use Rattle.std.proofs.Common.{sym, ◌∙◌}
+use Rattle.ta_syntax.proofs.Common.{sym, ◌∙◌}
 use Rattle.ta_syntax.proofs.items.next_relation.Goals as goal
 
 pub returns : goal.returns

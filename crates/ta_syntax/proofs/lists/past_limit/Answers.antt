@@ -1,6 +1,6 @@
+use Rattle.ta_syntax.proofs.Common.{sym, ◌∙◌}
 use Rattle.ta_syntax.proofs.ListSteps.{past_many, past_wrong}
 use Rattle.ta_syntax.proofs.lists.past_limit.Goals as goal
-use Rattle.std.proofs.Common.{sym, ◌∙◌}
 
 pub returns-then-starts : goal.returns-then-starts
 returns-then-starts g c = past_many g.T.Item.grammar c.args.end c.first_offset-at.result c.args.tokens.now (sym c.starts.ensures ∙ c.if-starts.true)

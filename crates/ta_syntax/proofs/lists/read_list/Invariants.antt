@@ -1,4 +1,4 @@
-use Rattle.std.proofs.Common.{length}
+use Rattle.ta_syntax.proofs.Common.{length}
 use Rattle.ta_syntax.proofs.ListSteps.{ListSoFar}
 use Rattle.ta_syntax.proofs.lists.read_list.Given as goal
 

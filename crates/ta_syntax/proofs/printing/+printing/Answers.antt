@@ -1,10 +1,10 @@
 use Rattle.ta_syntax.proofs.Common.{◌≡◌, ◌+◌, ◌∷◌, ◌++◌, [], zero, suc, List, ℕ, drop, sym, ap, subst, ◌∙◌, arith, drop_more, drop_of_length-le, string_bytes}
 use Rattle.ta_syntax.proofs.Common.{if_ok_then, sum_kinds, term_kinds, factor_kinds, plain_sum, plain_term, plain_terms, plain_factor, Prints, sign_before}
 use Rattle.ta_syntax.proofs.Common.{Kind, Sign, TreeTerm, TreeFactor}
-use Rattle.ta_syntax.specs.declared.tokens.Kind.TheVariants as kind
-use Rattle.ta_syntax.specs.declared.tokens.Mark.TheVariants as mark
 use Rattle.ta_syntax.proofs.PrintSteps.{Goes, goes_on, goes_to_end, prints_then, signed, signed_all, plain_sum_out}
 use Rattle.ta_syntax.proofs.SumSteps.{plain_nested}
+use Rattle.ta_syntax.specs.declared.tokens.Kind.TheVariants as kind
+use Rattle.ta_syntax.specs.declared.tokens.Mark.TheVariants as mark
 use Rattle.ta_syntax.proofs.printing.+printing.Goals as goal
 
 pub print_factor-returns-in_ok-print_sum-in-Nested : goal.print_factor-returns-in_ok-print_sum-in-Nested

@@ -1,7 +1,7 @@
 use Rattle.ta_syntax.proofs.Common.{[], ◌∷◌, ◌++◌, string_bytes, if_ok_then, listed, Prints}
+use Rattle.ta_syntax.proofs.PrintSteps.{prints_then}
 use Rattle.ta_syntax.specs.declared.tokens.Kind.TheVariants as kind
 use Rattle.ta_syntax.specs.declared.tokens.Mark.TheVariants as mark
-use Rattle.ta_syntax.proofs.PrintSteps.{prints_then}
 use Rattle.ta_syntax.proofs.printing.print_declared.Goals as goal
 
 pub returns : goal.returns

@@ -1,7 +1,7 @@
 use Rattle.ta_syntax.proofs.Common.{[], ◌∷◌, ◌++◌, map, string_bytes, if_ok_then, listed, name_kinds, location_kinds, plain_name, plain_location, Prints}
+use Rattle.ta_syntax.proofs.PrintSteps.{prints_then, declared_of, declared_then}
 use Rattle.ta_syntax.specs.declared.tokens.Kind.TheVariants as kind
 use Rattle.ta_syntax.specs.declared.tokens.Mark.TheVariants as mark
-use Rattle.ta_syntax.proofs.PrintSteps.{prints_then, declared_of, declared_then}
 use Rattle.ta_syntax.proofs.printing.print_head.Goals as goal
 
 pub returns : goal.returns

@@ -1,7 +1,7 @@
 use Rattle.ta_syntax.proofs.Common.{◌≡◌, ◌+◌, ◌∷◌, [], drop, sym, ap, subst, ◌∙◌, arith, drop_more, drop_of_length-le, string_bytes, listed, further, Prints}
+use Rattle.ta_syntax.proofs.PrintSteps.{Goes, goes_on, goes_to_end, prints_then}
 use Rattle.ta_syntax.specs.declared.tokens.Kind.TheVariants as kind
 use Rattle.ta_syntax.specs.declared.tokens.Mark.TheVariants as mark
-use Rattle.ta_syntax.proofs.PrintSteps.{Goes, goes_on, goes_to_end, prints_then}
 use Rattle.ta_syntax.proofs.printing.print_listed.Goals as goal
 
 pub items-preserved : goal.items-preserved

@@ -1,6 +1,6 @@
 use Rattle.ta_syntax.proofs.Common.{drop, string_bytes, further}
-use Rattle.ta_syntax.specs.declared.tokens.Kind.TheVariants as kind
 use Rattle.ta_syntax.proofs.PrintSteps.{Goes}
+use Rattle.ta_syntax.specs.declared.tokens.Kind.TheVariants as kind
 use Rattle.ta_syntax.proofs.printing.print_listed.Given as goal
 
 abbrev pub invariant-items : goal.invariant-items

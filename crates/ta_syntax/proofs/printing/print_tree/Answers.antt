@@ -1,8 +1,8 @@
 use Rattle.ta_syntax.proofs.Common.{ℕ, List, [], ◌∷◌, ◌++◌, map, ap, subst, ◌∙◌, string_bytes, sum_kinds, listed, each, comparison_kinds, rule_kinds}
 use Rattle.ta_syntax.proofs.Common.{pattern_kinds, plain_sum, plain_comparison, plain_rule, plain_pattern, plain_tree, printed, Prints, head_kinds}
+use Rattle.ta_syntax.proofs.PrintSteps.{prints_then, each_of, declared_of, declared_then, head_parts}
 use Rattle.ta_syntax.specs.declared.tokens.Kind.TheVariants as kind
 use Rattle.ta_syntax.specs.declared.tokens.Mark.TheVariants as mark
-use Rattle.ta_syntax.proofs.PrintSteps.{prints_then, each_of, declared_of, declared_then, head_parts}
 use Rattle.ta_syntax.proofs.printing.print_tree.Goals as goal
 
 pub returns : goal.returns

@@ -1,4 +1,5 @@
-use Rattle.std.proofs.Common.{length, ◌+◌, ◌*◌}
+use Rattle.ta_syntax.proofs.Common.{length, ◌+◌}
+use Rattle.std.proofs.Common.{◌*◌}
 use Rattle.ta_syntax.proofs.SumExits.{SumSoFar}
 use Rattle.ta_syntax.proofs.reading.+reading.Given as goal
 

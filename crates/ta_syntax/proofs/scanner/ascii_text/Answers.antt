@@ -1,4 +1,4 @@
-use Rattle.std.proofs.Common.{subst, sym, rules}
+use Rattle.ta_syntax.proofs.Common.{subst, sym, rules}
 use Rattle.std.specs.Str.{IsUtf8}
 use Rattle.std.proofs.lemmas.Str.{IsUtf8-from_ascii}
 use Rattle.ta_syntax.proofs.scanner.ascii_text.Goals as goal

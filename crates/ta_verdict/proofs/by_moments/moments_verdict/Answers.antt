@@ -1,5 +1,4 @@
-use Rattle.ta_verdict.proofs.Common.{◌≡◌, ℕ, refl, subst, loops_pure, of_events, TreeIs}
-use Rattle.ta_moment_tree.specs.Makers.{moments_of}
+use Rattle.ta_verdict.proofs.Common.{◌≡◌, ℕ, refl, subst, loops_pure, of_events, TreeIs, moments_of}
 use Rattle.ta_verdict.proofs.MomentVerdicts.{moments_overflow, moments_safe, moments_spent}
 use Rattle.ta_verdict.proofs.by_moments.moments_verdict.Goals as goal
 

@@ -1,5 +1,4 @@
-use Rattle.ta_verdict.proofs.Common.{ap, map, subst, sym, pair_of, safety_question, false, holds_by, rules, VerdictFits, tree_size, WitnessFaultOf}
-use Rattle.std.proofs.lemmas.Result.{IfOk-weaker}
+use Rattle.ta_verdict.proofs.Common.{ap, map, subst, sym, pair_of, safety_question, false, holds_by, rules, VerdictFits, tree_size, WitnessFaultOf, IfOk-weaker}
 use Rattle.ta_verdict.proofs.VerdictsMade.{run_leaves}
 use Rattle.ta_verdict.proofs.by_words.verdict_of.Goals as goal
 

@@ -1,9 +1,7 @@
 use Rattle.ta_verdict.proofs.Common.{◌≡◌, List, subst, ℕ, pattern_search, loops_pure, NodeOf, SolutionAt, TreeIs, Overflow, SpentHolds, VerdictAnswers, false}
-use Rattle.ta_verdict.proofs.Common.{holds_by, safety_question}
-use Rattle.ta_rest.specs.Trees.{search_of_claim}
-use Rattle.ta_walk.proofs.ClaimsVisited.{visit_of}
-use Rattle.ta_walk.specs.declared.end.VisitEnd.TheVariants as visit
+use Rattle.ta_verdict.proofs.Common.{holds_by, safety_question, search_of_claim, visit_of}
 use Rattle.ta_verdict.proofs.VerdictsMade.{overflow_holds, safe_holds, said_of, solution_found, spent_holds, under}
+use Rattle.ta_walk.specs.declared.end.VisitEnd.TheVariants as visit
 use Rattle.ta_verdict.proofs.by_words.words_verdict.Goals as goal
 
 pub verdict_of-requires-clause-solution : goal.verdict_of-requires-clause-solution

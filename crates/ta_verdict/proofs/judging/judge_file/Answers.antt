@@ -1,5 +1,4 @@
-use Rattle.ta_verdict.proofs.Common.{◌∙◌, [], Begun, None, subst, sym, CertificateOf, List, ℕ, safe_numbers}
-use Rattle.ta_check.specs.Certificate.{Certificate}
+use Rattle.ta_verdict.proofs.Common.{◌∙◌, [], Begun, None, subst, sym, CertificateOf, List, ℕ, safe_numbers, Certificate}
 use Rattle.ta_verdict.proofs.judging.judge_file.Goals as goal
 
 -- in memory it doesn't matter where it was begun

@@ -1,7 +1,7 @@
 use Rattle.ta_verdict.proofs.Common.{◌++◌, [], List, append-nil, refl, subst, sym, proofs_text, Verdict, loops_pure, AreTrees, safe_picked, head_of, ended_line}
-use Rattle.ta_cert.specs.declared.line.Line.TheVariants as line
 use Rattle.ta_verdict.proofs.JudgedSoFar.{err_any}
 use Rattle.ta_verdict.proofs.CertificatesMade.{certificate_accepted, certificate_made}
+use Rattle.ta_cert.specs.declared.line.Line.TheVariants as line
 use Rattle.ta_verdict.proofs.judging.judge_picked_to.Goals as goal
 
 pub returns-clause-certificate : goal.returns-clause-certificate

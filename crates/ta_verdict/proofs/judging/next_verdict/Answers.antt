@@ -1,8 +1,8 @@
 use Rattle.ta_verdict.proofs.Common.{◌∙◌, ap, false, is_lazy, sym, true, tree_under, VerdictHolds}
 use Rattle.ta_verdict.proofs.DraftsMade.{Drafted, adds_tree, drafted_within, wanted_same}
 use Rattle.ta_verdict.proofs.judging.next_verdict.Given.{Over}
-use Rattle.ta_verdict.proofs.judging.next_verdict.Goals as goal
 use Rattle.ta_verdict.proofs.judging.next_verdict.Goals.{After-is_safe, in-Words+in_ok-verdict-in-Words, in-Moments+in_ok-verdict-in-Moments}
+use Rattle.ta_verdict.proofs.judging.next_verdict.Goals as goal
 
 -- what the verdict by either trees says
 said : (g : Over) (c : After-is_safe g) → Drafted (VerdictHolds c.args.scoped.now.file c.args.budget) (tree_under c.args.scoped.now.file c.args.budget)

@@ -1,7 +1,5 @@
-use Rattle.std.proofs.Common.{◌≡◌, drop}
-use Rattle.std.specs.Prelude.{option_copied}
-use Rattle.std.specs.List.{list_all}
-use Rattle.ta_moments.specs.Questions.{counts_natural, known_value}
+use Rattle.ta_walk.proofs.Common.{◌≡◌, drop, option_copied, list_all, known_value}
+use Rattle.ta_moments.specs.Questions.{counts_natural}
 use Rattle.ta_moment_tree.specs.Forms.{all_forms}
 use Rattle.ta_walk.specs.Values.{values_of}
 use Rattle.ta_walk.proofs.asked_next.all_natural.Given as goal

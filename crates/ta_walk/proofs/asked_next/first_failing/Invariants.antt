@@ -1,10 +1,6 @@
-use Rattle.std.proofs.Common.{◌≡◌, ◌&&◌, drop, map}
-use Rattle.std.specs.Prelude.{option_copied}
-use Rattle.std.specs.List.{find}
-use Rattle.ta_moments.specs.Questions.{fails_at_end, is_guard_open}
-use Rattle.ta_moment_tree.specs.Forms.{vector_of}
+use Rattle.ta_walk.proofs.Common.{◌≡◌, drop, map, option_copied, find, fails_at_end, is_guard_open, vector_of, guard_of}
+use Rattle.std.proofs.Common.{◌&&◌}
 use Rattle.ta_walk.specs.Values.{values_of}
-use Rattle.ta_moment_tree.specs.Parts.{guard_of}
 use Rattle.ta_walk.proofs.asked_next.first_failing.Given as goal
 
 abbrev pub invariant-loop-guard : goal.invariant-loop-guard

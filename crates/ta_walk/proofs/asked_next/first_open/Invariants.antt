@@ -1,10 +1,5 @@
-use Rattle.std.proofs.Common.{◌≡◌, drop, map}
-use Rattle.std.specs.Prelude.{option_copied}
-use Rattle.std.specs.List.{find}
-use Rattle.ta_moments.specs.Questions.{is_guard_open}
-use Rattle.ta_moment_tree.specs.Forms.{vector_of}
+use Rattle.ta_walk.proofs.Common.{◌≡◌, drop, map, option_copied, find, is_guard_open, vector_of, guard_of}
 use Rattle.ta_walk.specs.Values.{values_of}
-use Rattle.ta_moment_tree.specs.Parts.{guard_of}
 use Rattle.ta_walk.proofs.asked_next.first_open.Given as goal
 
 abbrev pub invariant-loop-guard : goal.invariant-loop-guard

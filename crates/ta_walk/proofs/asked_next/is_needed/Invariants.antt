@@ -1,8 +1,4 @@
-use Rattle.std.proofs.Common.{◌≡◌, drop}
-use Rattle.std.specs.Prelude.{option_copied}
-use Rattle.std.specs.List.{list_any}
-use Rattle.ta_moments.specs.Questions.{counts_positive, known_value}
-use Rattle.ta_moment_tree.specs.Forms.{vector_of}
+use Rattle.ta_walk.proofs.Common.{◌≡◌, drop, option_copied, list_any, counts_positive, known_value, vector_of}
 use Rattle.ta_walk.specs.Values.{values_of}
 use Rattle.ta_walk.proofs.asked_next.is_needed.Given as goal
 

@@ -1,5 +1,4 @@
-use Rattle.std.proofs.Common.{◌∙◌, ap}
-use Rattle.std.specs.Prelude.{option_copied}
+use Rattle.ta_walk.proofs.Common.{◌∙◌, ap, option_copied}
 use Rattle.ta_moments.specs.Questions.{Parts, question_among}
 use Rattle.ta_walk.specs.Values.{values_of}
 use Rattle.ta_moment_tree.specs.Parts.{parts_of}

@@ -1,6 +1,4 @@
-use Rattle.std.proofs.Common.{◌≡◌, drop, map}
-use Rattle.std.specs.Prelude.{option_copied}
-use Rattle.ta_moments.specs.Questions.{rule_to_ask}
+use Rattle.ta_walk.proofs.Common.{◌≡◌, drop, map, option_copied, rule_to_ask}
 use Rattle.ta_walk.specs.Values.{values_of}
 use Rattle.ta_moment_tree.specs.Parts.{rule_of}
 use Rattle.ta_walk.proofs.asked_next.rule_to_ask.Given as goal

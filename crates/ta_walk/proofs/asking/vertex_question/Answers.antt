@@ -1,6 +1,4 @@
-use Rattle.std.proofs.Common.{◌∙◌, ap, refl}
-use Rattle.ta_moments.specs.Questions.{Values, next_question}
-use Rattle.ta_moment_tree.specs.Systems.{bounded_node}
+use Rattle.ta_walk.proofs.Common.{◌∙◌, ap, refl, Values, next_question, bounded_node}
 use Rattle.ta_walk.specs.Values.{values_of}
 use Rattle.ta_walk.proofs.asking.vertex_question.Goals as goal
 

@@ -1,7 +1,4 @@
-use Rattle.std.proofs.Common.{◌≡◌, drop, Some}
-use Rattle.std.specs.List.{list_all}
-use Rattle.ta_moments.specs.Questions.{is_known_natural, known_value}
-use Rattle.ta_moment_tree.specs.Systems.{bound_forms}
+use Rattle.ta_walk.proofs.Common.{◌≡◌, drop, Some, list_all, is_known_natural, known_value, bound_forms}
 use Rattle.ta_walk.specs.Values.{values_of}
 use Rattle.ta_walk.proofs.bounds.bounds_met.Given as goal
 

@@ -1,11 +1,9 @@
-use Rattle.std.proofs.Common.{◌≡◌, ◌∙◌, ◌<◌, ◌^◌, ◌++◌, ◌∷◌, List, [], ℕ, ℤ, pos, arith, ap, to_z, of_z, unsigned_abs}
-use Rattle.std.specs.Int.{w128}
+use Rattle.ta_walk.proofs.Common.{◌≡◌, ◌∙◌, ◌<◌, ◌^◌, ◌++◌, ◌∷◌, List, [], ℕ, ℤ, pos, arith, ap, to_z, of_z, unsigned_abs, w128, coefficient, bound_row}
+use Rattle.ta_walk.proofs.Common.{bound_start}
 use Rattle.ta_base.proofs.Integers.{to_z_range}
-use Rattle.ta_linear.specs.Terms.{coefficient}
 use Rattle.ta_encode.specs.Inside.Lines.{bound_sense}
 use Rattle.ta_encode.specs.Lines.{coefficient_in_sense}
-use Rattle.ta_encode.specs.System.{bound_row}
-use Rattle.ta_moment_tree.proofs.Systems.{bound_start, bound_terms}
+use Rattle.ta_moment_tree.proofs.Systems.{bound_terms}
 use Rattle.ta_walk.proofs.bounds.form_with.Goals as goal
 
 pub returns : goal.returns

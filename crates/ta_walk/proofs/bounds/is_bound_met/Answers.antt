@@ -1,11 +1,7 @@
-use Rattle.std.proofs.Common.{rules, ◌≡◌, ℤ, sym, subst, to_z, of_z}
-use Rattle.std.specs.Prelude.{FitsSigned}
-use Rattle.std.specs.Int.{w128}
+use Rattle.ta_walk.proofs.Common.{rules, ◌≡◌, ℤ, sym, subst, to_z, of_z, FitsSigned, w128, InRange, bound_start}
 use Rattle.std.proofs.Math.Facts.{to_z-of_z}
 use Rattle.ta_encode.specs.Inside.Lines.{bound_constant}
-use Rattle.ta_linear.specs.Numbers.{InRange}
 use Rattle.ta_moment_tree.specs.Systems.{bound_form}
-use Rattle.ta_moment_tree.proofs.Systems.{bound_start}
 use Rattle.ta_walk.proofs.NodesKnown.{constant_out}
 use Rattle.ta_walk.proofs.bounds.is_bound_met.Goals as goal
 

@@ -1,4 +1,4 @@
-use Rattle.std.proofs.Common.{length}
+use Rattle.ta_walk.proofs.Common.{length}
 use Rattle.ta_walk.proofs.OrderSteps.{found_on, next_guard}
 use Rattle.ta_walk.proofs.finding.find_orders.Goals as goal
 

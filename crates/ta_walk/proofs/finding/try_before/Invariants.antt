@@ -1,4 +1,4 @@
-use Rattle.ta_walk.specs.Inside.Sought.{GuardTried}
+use Rattle.ta_walk.proofs.Common.{GuardTried}
 use Rattle.ta_walk.proofs.finding.try_before.Given as goal
 
 abbrev pub invariant-loop-before : goal.invariant-loop-before

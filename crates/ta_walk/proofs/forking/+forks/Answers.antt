@@ -1,6 +1,5 @@
 use Rattle.ta_walk.proofs.Common.{ℕ, ◌-◌, ◌+◌, ◌<◌, ◌≡◌, ◌∙◌, IsCounted, List, IfOk, ap, arith, left_at, length, map, subst, sym, Pending, rules}
-use Rattle.ta_walk.proofs.Common.{AllByRecursion, TreeEnd, ComesTo, HasFewLeft, PartVisited, beginning, root_node, search_of_claim}
-use Rattle.ta_words.specs.declared.element.Element.{Element}
+use Rattle.ta_walk.proofs.Common.{AllByRecursion, TreeEnd, ComesTo, HasFewLeft, PartVisited, beginning, root_node, search_of_claim, Element}
 use Rattle.ta_walk.proofs.NodesCounted.{counted_after, counted_more, ok_both}
 use Rattle.ta_walk.proofs.PartsMerged.{decided_part}
 use Rattle.ta_walk.proofs.RootsListed.{halves_listed, last_alone, root_left, root_stands}
@@ -102,33 +101,3 @@ visit_beside-returns-clause-counted g t c =
     subst (λ (k : ℕ). IfOk c.merge_both.result (λ part. IsCounted c.args.nodes k part.end part.begun)) all
     (c.merge_both.ensures.counted low high c.join-first.ensures.first.1.1.1
     c.join-first.ensures.second.1.1.1)
-
-pub visit_list-returns-then-len-lt2-clause-small : goal.visit_list-returns-then-len-lt2-clause-small
-visit_list-returns-then-len-lt2-clause-small g t c = c.visit_on.ensures.small
-
-pub visit_list-returns-then-len-lt2-clause-patient : goal.visit_list-returns-then-len-lt2-clause-patient
-visit_list-returns-then-len-lt2-clause-patient g t c = c.visit_on.ensures.patient
-
-pub visit_list-returns-then-len-lt2-clause-counted : goal.visit_list-returns-then-len-lt2-clause-counted
-visit_list-returns-then-len-lt2-clause-counted g t c = c.visit_on.ensures.counted
-
-pub visit_list-returns-clause-small : goal.visit_list-returns-clause-small
-visit_list-returns-clause-small g t c = c.visit_halves.ensures.small
-
-pub visit_list-returns-clause-patient : goal.visit_list-returns-clause-patient
-visit_list-returns-clause-patient g t c = c.visit_halves.ensures.patient
-
-pub visit_list-returns-clause-counted : goal.visit_list-returns-clause-counted
-visit_list-returns-clause-counted g t c = c.visit_halves.ensures.counted
-
-pub visit_beside-returns-clause-small : goal.visit_beside-returns-clause-small
-visit_beside-returns-clause-small g t c = c.merge_both.ensures.small
-
-pub visit_in_turn-returns-in_default-clause-small : goal.visit_in_turn-returns-in_default-clause-small
-visit_in_turn-returns-in_default-clause-small g t c = c.in_ok-first.ensures.small
-
-pub visit_in_turn-returns-in_default-clause-patient : goal.visit_in_turn-returns-in_default-clause-patient
-visit_in_turn-returns-in_default-clause-patient g t c = λ patient. c.in_ok-first.ensures.patient (c.first_half-low.ensures.patient ∙ patient)
-
-pub visit_in_turn-returns-clause-small : goal.visit_in_turn-returns-clause-small
-visit_in_turn-returns-clause-small g t c = c.add.ensures.small

@@ -1,4 +1,4 @@
-use Rattle.std.proofs.Common.{◌+◌, ◌*◌, vec_len}
+use Rattle.ta_walk.proofs.Common.{◌+◌, ◌*◌, vec_len}
 use Rattle.ta_walk.proofs.forking.+forks.Given as goal
 
 abbrev pub decreases-visit_list : goal.decreases-visit_list

@@ -1,7 +1,6 @@
 use Rattle.ta_walk.proofs.Common.{◌∙◌, ◌-◌, ◌+◌, ◌≡◌, ℕ, IfOk, arith, sym, subst, left_at, TreeEnd, IsCounted, PartVisited, SharesBudget, beginning}
-use Rattle.ta_walk.proofs.Common.{search_of_claim}
+use Rattle.ta_walk.proofs.Common.{search_of_claim, Element}
 use Rattle.ta_walk.proofs.NodesCounted.{counted_alone, counted_shared}
-use Rattle.ta_words.specs.declared.element.Element.{Element}
 use Rattle.ta_walk.proofs.PartsMerged.{shared_part}
 use Rattle.ta_walk.proofs.forking.+shares.Goals as goal
 
@@ -66,15 +65,3 @@ visit_on-returns-in_ok-part-in-Shared-clause-counted g t c =
     (counted_shared n c.args.watch.forks count c.in-Shared.leaves part.end c.new-work.result.begun c.visit_stretch.new.work.begun part.begun
     c.add.new.self.begun c.requires.limit c.new-work.ensures
     small.within counted c.in_ok-part-in-Shared.ensures.counted c.add.ensures)
-
-pub visit_shared-returns-clause-small : goal.visit_shared-returns-clause-small
-visit_shared-returns-clause-small g t c = c.merge_both.ensures.small
-
-pub visit_on-returns-in_ok-part-in-Shared-clause-small : goal.visit_on-returns-in_ok-part-in-Shared-clause-small
-visit_on-returns-in_ok-part-in-Shared-clause-small g t c = c.end_behind.ensures.small
-
-pub visit_on-returns-in-Ended-clause-small : goal.visit_on-returns-in-Ended-clause-small
-visit_on-returns-in-Ended-clause-small g t c = rw c.in-Ended.is at c.in_ok-end.ensures.small
-
-pub visit_on-returns-in-Ended-clause-patient : goal.visit_on-returns-in-Ended-clause-patient
-visit_on-returns-in-Ended-clause-patient g t c = λ patient. rw c.in-Ended.is at (c.in_ok-end.ensures.patient patient)

@@ -1,4 +1,4 @@
-use Rattle.std.proofs.Common.{◌+◌, ◌*◌}
+use Rattle.ta_walk.proofs.Common.{◌+◌, ◌*◌}
 use Rattle.ta_walk.proofs.forking.+shares.Given as goal
 
 abbrev pub decreases-visit_on : goal.decreases-visit_on

@@ -1,4 +1,4 @@
-use Rattle.std.proofs.Common.{refl}
+use Rattle.ta_walk.proofs.Common.{refl}
 use Rattle.ta_walk.proofs.forking.frontier_at.Goals as goal
 
 pub returns-clause-cursor : goal.returns-clause-cursor

@@ -1,8 +1,4 @@
-use Rattle.std.proofs.Common.{rules, ◌≡◌, ◌<◌, ◌%◌, ℕ, pos, ◌<ℤ◌, arith, sym, subst, unsigned_abs}
-use Rattle.std.specs.Prelude.{FitsSigned}
-use Rattle.std.specs.Int.{IsGcd, w128}
-use Rattle.std.proofs.lemmas.Int.{ints, to_z-of_z}
-use Rattle.ta_linear.specs.Gcd.{gcd_of}
+use Rattle.ta_walk.proofs.Common.{rules, ◌≡◌, ◌<◌, ◌%◌, ℕ, pos, ◌<ℤ◌, arith, sym, subst, unsigned_abs, FitsSigned, IsGcd, w128, ints, to_z-of_z, gcd_of}
 use Rattle.ta_walk.proofs.Lowest.{divisor_is, divisor_some}
 use Rattle.ta_walk.proofs.fractions.common_divisor.Goals as goal
 

@@ -1,7 +1,4 @@
-use Rattle.std.proofs.Common.{◌≡◌, ◌<◌, ◌/◌, ℕ, pos, ◌<ℤ◌, ◌∙◌, arith, rules, sym, subst, unsigned_abs}
-use Rattle.std.specs.Prelude.{FitsSigned}
-use Rattle.std.specs.Int.{w128}
-use Rattle.std.proofs.lemmas.Int.{ints, to_z-of_z}
+use Rattle.ta_walk.proofs.Common.{◌≡◌, ◌<◌, ◌/◌, ℕ, pos, ◌<ℤ◌, ◌∙◌, arith, rules, sym, subst, unsigned_abs, FitsSigned, w128, ints, to_z-of_z}
 use Rattle.ta_moments.specs.Vertices.{common_divisor}
 use Rattle.ta_walk.proofs.Lowest.{lowest_of_one, quotient_some}
 use Rattle.ta_walk.proofs.fractions.lowest_denominator.Goals as goal

@@ -1,7 +1,4 @@
-use Rattle.std.proofs.Common.{◌≡◌, ◌<◌, ◌/◌, ◌*◌, ◌^◌, ℕ, ◌∙◌, ap, arith, sym, subst}
-use Rattle.std.specs.Prelude.{SomeIff}
-use Rattle.ta_linear.proofs.GcdLemmas.{gcd_of_is}
-use Rattle.ta_moments.specs.Vertices.{multiple_of}
+use Rattle.ta_walk.proofs.Common.{◌≡◌, ◌<◌, ◌/◌, ◌*◌, ◌^◌, ℕ, ◌∙◌, ap, arith, sym, subst, SomeIff, gcd_of_is, multiple_of}
 use Rattle.ta_walk.proofs.Lowest.{divisor_some, multiple_by_one}
 use Rattle.ta_walk.proofs.fractions.multiple_of.Goals as goal
 

@@ -1,8 +1,5 @@
-use Rattle.std.proofs.Common.{rules, ◌≡◌, ℤ, Option, Some, None, to_z, subst, sym}
-use Rattle.std.specs.Prelude.{FitsSigned, ◌-ℤ◌, ◌*ℤ◌}
-use Rattle.std.specs.Int.{w128}
-use Rattle.std.proofs.lemmas.Int.{to_z-of_z}
-use Rattle.ta_moments.specs.Questions.{with_product}
+use Rattle.ta_walk.proofs.Common.{rules, ◌≡◌, ℤ, Option, Some, None, to_z, subst, sym, FitsSigned, ◌*ℤ◌, w128, to_z-of_z, with_product}
+use Rattle.std.specs.Prelude.{◌-ℤ◌}
 use Rattle.ta_walk.proofs.MergedTerms.{adding_end, adding_past, adding_none, adding_next}
 use Rattle.ta_walk.proofs.known.add_terms.Goals as goal
 

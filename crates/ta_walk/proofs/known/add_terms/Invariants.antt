@@ -1,4 +1,4 @@
-use Rattle.std.proofs.Common.{◌+◌, length}
+use Rattle.ta_walk.proofs.Common.{◌+◌, length}
 use Rattle.ta_walk.proofs.MergedTerms.{Adding, difference}
 use Rattle.ta_walk.proofs.known.add_terms.Given as goal
 

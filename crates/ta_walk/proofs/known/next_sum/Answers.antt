@@ -1,8 +1,5 @@
-use Rattle.std.proofs.Common.{◌≡◌, ◌∙◌, ℤ, pos, ◌*ℤ◌, ◌-ℤ◌, ap, arith, sym, to_z}
-use Rattle.std.proofs.lemmas.Int.{ints}
-use Rattle.std.specs.Prelude.{FitsSigned}
-use Rattle.std.specs.Int.{w128}
-use Rattle.std.proofs.lemmas.Int.{to_z-of_z}
+use Rattle.ta_walk.proofs.Common.{◌≡◌, ◌∙◌, ℤ, pos, ◌*ℤ◌, ap, arith, sym, to_z, ints, FitsSigned, w128, to_z-of_z}
+use Rattle.std.proofs.Common.{◌-ℤ◌}
 use Rattle.ta_walk.proofs.Fitting.{with_zero}
 use Rattle.ta_walk.proofs.known.next_sum.Goals as goal
 

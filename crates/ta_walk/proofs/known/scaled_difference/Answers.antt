@@ -1,8 +1,5 @@
-use Rattle.std.proofs.Common.{rules, ℤ, ◌-ℤ◌, ◌*ℤ◌, subst}
-use Rattle.std.specs.Prelude.{FitsSigned, SomeIff}
-use Rattle.std.specs.Int.{w128}
-use Rattle.std.proofs.lemmas.Int.{to_z-of_z}
-use Rattle.ta_linear.specs.Numbers.{InRange}
+use Rattle.ta_walk.proofs.Common.{rules, ℤ, ◌*ℤ◌, subst, FitsSigned, SomeIff, w128, to_z-of_z, InRange}
+use Rattle.std.proofs.Common.{◌-ℤ◌}
 use Rattle.ta_walk.proofs.Fitting.{if_fits_is, multiple_out}
 use Rattle.ta_walk.proofs.known.scaled_difference.Goals as goal
 

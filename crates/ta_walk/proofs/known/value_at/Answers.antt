@@ -1,9 +1,6 @@
-use Rattle.std.proofs.Common.{rules, ◌≡◌, ℕ, ℤ, List, Option, Some, None, length, sym, ap, ◌∙◌, arith}
-use Rattle.std.specs.Prelude.{FitsSigned, ◌-ℤ◌, ◌*ℤ◌, option_copied}
-use Rattle.std.specs.Int.{w128}
-use Rattle.std.proofs.lemmas.Int.{to_z-of_z}
-use Rattle.ta_linear.specs.Terms.{coefficient}
-use Rattle.ta_moments.specs.Questions.{if_fits, with_products}
+use Rattle.ta_walk.proofs.Common.{rules, ◌≡◌, ℕ, ℤ, List, Option, Some, None, length, sym, ap, ◌∙◌, arith, FitsSigned, ◌*ℤ◌, option_copied, w128, to_z-of_z}
+use Rattle.ta_walk.proofs.Common.{coefficient, if_fits, with_products}
+use Rattle.std.specs.Prelude.{◌-ℤ◌}
 use Rattle.ta_moments.specs.Forms.{minus_form}
 use Rattle.ta_moment_tree.specs.Forms.{form_in}
 use Rattle.ta_walk.proofs.Fitting.{none_stays}

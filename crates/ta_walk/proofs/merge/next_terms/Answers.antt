@@ -1,7 +1,4 @@
-use Rattle.std.proofs.Common.{rules}
-use Rattle.std.specs.Prelude.{FitsSigned}
-use Rattle.std.specs.Int.{w128}
-use Rattle.std.proofs.lemmas.Int.{to_z-of_z}
+use Rattle.ta_walk.proofs.Common.{rules, FitsSigned, w128, to_z-of_z}
 use Rattle.ta_walk.proofs.MergedTerms.{left_alone, right_alone}
 use Rattle.ta_walk.proofs.merge.next_terms.Goals as goal
 

@@ -1,5 +1,4 @@
-use Rattle.ta_walk.proofs.Common.{◌++◌, sym, subst, TreeEnd, PartVisited, beginning}
-use Rattle.ta_words.specs.declared.element.Element.{Element}
+use Rattle.ta_walk.proofs.Common.{◌++◌, sym, subst, TreeEnd, PartVisited, beginning, Element}
 use Rattle.ta_walk.proofs.PartsMerged.{merged_parts}
 use Rattle.ta_walk.proofs.merging.add.Goals as goal
 

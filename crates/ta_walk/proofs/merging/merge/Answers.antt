@@ -1,6 +1,5 @@
-use Rattle.ta_walk.proofs.Common.{ℕ, ◌+◌, IfOk, arith, subst, sym, TreeEnd, IsCounted, PartVisited, RoseBy, beginning, behind}
+use Rattle.ta_walk.proofs.Common.{ℕ, ◌+◌, IfOk, arith, subst, sym, TreeEnd, IsCounted, PartVisited, RoseBy, beginning, behind, Element}
 use Rattle.ta_walk.proofs.NodesCounted.{counted_both, counted_first, ok_both}
-use Rattle.ta_words.specs.declared.element.Element.{Element}
 use Rattle.ta_walk.proofs.PartsMerged.{decided_part}
 use Rattle.ta_walk.proofs.merging.merge.Goals as goal
 

@@ -1,5 +1,5 @@
-use Rattle.std.proofs.Common.{◌≡◌, ◌∙◌, ◌+◌, ◌<◌, ◌≤◌, ◌^◌, ℕ, drop, length, ap, arith, sym, subst}
-use Rattle.ta_moments.specs.Vertices.{common_denominator, denominator_with, multiple_of}
+use Rattle.ta_walk.proofs.Common.{◌≡◌, ◌∙◌, ◌+◌, ◌<◌, ◌≤◌, ◌^◌, ℕ, drop, length, ap, arith, sym, subst, common_denominator, multiple_of}
+use Rattle.ta_moments.specs.Vertices.{denominator_with}
 use Rattle.ta_simplex.specs.Vertex.{parts_of}
 use Rattle.ta_walk.proofs.Lowest.{left_after, next_denominator, next_some, no_less}
 use Rattle.ta_walk.proofs.moment_vertices.common_denominator.Goals as goal

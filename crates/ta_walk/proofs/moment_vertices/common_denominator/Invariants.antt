@@ -1,7 +1,6 @@
-use Rattle.std.proofs.Common.{◌≡◌, ◌<◌, ◌^◌, ℕ, List, drop}
-use Rattle.ta_moments.specs.Vertices.{common_denominator, denominator_with}
+use Rattle.ta_walk.proofs.Common.{◌≡◌, ◌<◌, ◌^◌, ℕ, List, drop, common_denominator, Fraction}
+use Rattle.ta_moments.specs.Vertices.{denominator_with}
 use Rattle.ta_simplex.specs.Vertex.{parts_of}
-use Rattle.ta_simplex.specs.declared.fraction.Fraction.{Fraction}
 use Rattle.ta_walk.proofs.moment_vertices.common_denominator.Given as goal
 
 -- what is left goes on from the denominator so far

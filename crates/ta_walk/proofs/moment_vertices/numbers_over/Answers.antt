@@ -1,7 +1,5 @@
-use Rattle.std.proofs.Common.{Some, ◌∙◌, ◌+◌, ◌++◌, ◌∷◌, [], ◌≤◌, ℤ, List, ap, arith, drop, length, rules, sym, FitsSigned}
-use Rattle.std.specs.Int.{w128}
-use Rattle.std.proofs.lemmas.Int.{to_z-of_z}
-use Rattle.ta_moments.specs.Vertices.{number_over, numbers_over}
+use Rattle.ta_walk.proofs.Common.{Some, ◌∙◌, ◌+◌, ◌++◌, ◌∷◌, [], ◌≤◌, ℤ, List, ap, arith, drop, length, rules, sym, FitsSigned, w128, to_z-of_z, number_over}
+use Rattle.ta_walk.proofs.Common.{numbers_over}
 use Rattle.ta_simplex.specs.Vertex.{parts_of}
 use Rattle.ta_walk.proofs.Lowest.{all_or_none, last_numbers, next_numbers, one_in, one_out}
 use Rattle.ta_walk.proofs.moment_vertices.numbers_over.Goals as goal

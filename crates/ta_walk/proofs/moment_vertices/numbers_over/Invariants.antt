@@ -1,5 +1,4 @@
-use Rattle.std.proofs.Common.{◌≡◌, [], drop}
-use Rattle.ta_moments.specs.Vertices.{numbers_over}
+use Rattle.ta_walk.proofs.Common.{◌≡◌, [], drop, numbers_over}
 use Rattle.ta_simplex.specs.Vertex.{parts_of}
 use Rattle.ta_walk.proofs.Lowest.{all_or_none}
 use Rattle.ta_walk.proofs.moment_vertices.numbers_over.Given as goal

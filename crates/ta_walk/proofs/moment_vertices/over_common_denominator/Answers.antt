@@ -1,6 +1,5 @@
-use Rattle.std.proofs.Common.{◌≡◌, ◌∙◌, ◌<◌, ◌≤◌, ◌^◌, ℕ, ℤ, pos, ◌<ℤ◌, arith, sym, subst}
-use Rattle.std.specs.Int.{w128}
-use Rattle.std.proofs.lemmas.Int.{ints, to_z_pos}
+use Rattle.ta_walk.proofs.Common.{◌≡◌, ◌∙◌, ◌<◌, ◌≤◌, ◌^◌, ℕ, ℤ, pos, ◌<ℤ◌, arith, sym, subst, w128, ints}
+use Rattle.std.proofs.lemmas.Int.{to_z_pos}
 use Rattle.ta_walk.proofs.Lowest.{denominator_some, given_length}
 use Rattle.ta_walk.proofs.moment_vertices.over_common_denominator.Goals as goal
 

@@ -1,24 +1,14 @@
-use Rattle.std.proofs.Common.{◌≡◌, ◌∙◌, ℕ, ℤ, List, Some, reverse, slice_get, refl, sym, subst}
+use Rattle.ta_walk.proofs.Common.{◌≡◌, ◌∙◌, ℕ, ℤ, List, Some, reverse, slice_get, refl, sym, subst, IfOk-weaker, Pattern, Comes, Search, candidate_of, Fact}
+use Rattle.ta_walk.proofs.Common.{MomentEncoding, EncodesSomeWhole, IsKeptAt, moment_maker, asking_of, search_of_moments, NodeOf, WholeNode, EndsIn, EndsAtNode}
+use Rattle.ta_walk.proofs.Common.{MomentEnd}
 use Rattle.std.proofs.lemmas.Option.{same_Some}
-use Rattle.std.proofs.lemmas.Result.{IfOk-weaker}
 use Rattle.ta_base.proofs.Lists.{some_at}
-use Rattle.ta_automaton.specs.declared.pattern.Pattern.{Pattern}
-use Rattle.ta_encode.specs.Search.{Comes, Search}
 use Rattle.ta_moments.specs.Refutes.{Asking}
-use Rattle.ta_moments.specs.Searched.{candidate_of}
-use Rattle.ta_moments.specs.declared.fact.Fact.{Fact}
-use Rattle.ta_moment_tree.specs.declared.encoding.MomentEncoding.{MomentEncoding}
-use Rattle.ta_witness.specs.Given.{EncodesSomeWhole}
-use Rattle.ta_moment_tree.specs.Kept.{IsKeptAt}
-use Rattle.ta_moment_tree.specs.Makers.{moment_maker, moments_of}
-use Rattle.ta_moment_tree.specs.Trees.{IsAt, asking_of, search_of_moments}
-use Rattle.ta_walk.specs.declared.end.TreeEnd.TheVariants as tree
-use Rattle.ta_walk.specs.Ends.{NodeOf, WholeNode}
-use Rattle.ta_walk.specs.MomentEnds.{EndsIn}
-use Rattle.ta_walk.specs.Inside.Showing.{EndsAtNode}
-use Rattle.ta_walk.specs.declared.moment_end.MomentEnd.{MomentEnd}
+use Rattle.ta_moment_tree.specs.Makers.{moments_of}
+use Rattle.ta_moment_tree.specs.Trees.{IsAt}
 use Rattle.ta_walk.proofs.EndsShown.{Limited, comes_there, encodes_some, ends_there, lost_at, same_search, tree_end}
 use Rattle.ta_walk.proofs.NodesMade.{roots_unbounded}
+use Rattle.ta_walk.specs.declared.end.TreeEnd.TheVariants as tree
 use Rattle.ta_walk.proofs.moment_visiting.visit_moments.Goals as goal
 
 pub visit_tree-requires-clause-roots : goal.visit_tree-requires-clause-roots

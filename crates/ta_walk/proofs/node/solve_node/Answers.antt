@@ -1,8 +1,7 @@
 use Rattle.ta_walk.proofs.Common.{ℕ, ◌<◌, ◌^◌, List, length, ap, arith, sym, subst, Fraction, System, SystemAt, variables, slack_tableau, OverflowsAt, IsVertex}
-use Rattle.ta_walk.proofs.Common.{IsOutOfRangeAt, here}
+use Rattle.ta_walk.proofs.Common.{IsOutOfRangeAt, here, IsBranch, IsRefuted}
 use Rattle.ta_walk.specs.declared.end.PlaceKind.TheVariants.{Pivot}
 use Rattle.ta_walk.proofs.Nodes.{few_variables}
-use Rattle.ta_walk.proofs.Common.{IsBranch, IsRefuted}
 use Rattle.ta_walk.proofs.VertexTaken.{on_inner, on_inner_ok}
 use Rattle.ta_walk.proofs.node.solve_node.Goals as goal
 

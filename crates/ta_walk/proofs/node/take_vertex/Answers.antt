@@ -1,7 +1,4 @@
-use Rattle.ta_walk.proofs.Common.{◌∙◌, List, reverse, rules, subst, sym, FitsSigned, w128, to_z-of_z, VertexAt}
-use Rattle.ta_encode.specs.Cursors.{node_at}
-use Rattle.ta_encode.specs.Search.{Comes}
-use Rattle.ta_encode.specs.declared.meaning.Bound.{Bound}
+use Rattle.ta_walk.proofs.Common.{◌∙◌, List, reverse, rules, subst, sym, FitsSigned, w128, to_z-of_z, VertexAt, node_at, Comes, Bound}
 use Rattle.ta_walk.proofs.VertexTaken.{as_read, asks_at, scaled_at, split_at, whole_at}
 use Rattle.ta_walk.proofs.node.take_vertex.Goals as goal
 

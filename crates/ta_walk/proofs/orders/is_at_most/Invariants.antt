@@ -1,7 +1,4 @@
-use Rattle.std.proofs.Common.{◌≡◌, drop}
-use Rattle.std.specs.Prelude.{option_copied}
-use Rattle.ta_moments.specs.Questions.{is_at_most}
-use Rattle.ta_moment_tree.specs.Forms.{vector_of}
+use Rattle.ta_walk.proofs.Common.{◌≡◌, drop, option_copied, is_at_most, vector_of}
 use Rattle.ta_walk.specs.Values.{values_of}
 use Rattle.ta_walk.proofs.orders.is_at_most.Given as goal
 

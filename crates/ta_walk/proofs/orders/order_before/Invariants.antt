@@ -1,7 +1,4 @@
-use Rattle.std.proofs.Common.{◌≡◌, ◌-◌}
-use Rattle.std.specs.Prelude.{option_copied}
-use Rattle.std.specs.List.{find, range_with_len}
-use Rattle.ta_moments.specs.Questions.{is_order_open}
+use Rattle.ta_walk.proofs.Common.{◌≡◌, ◌-◌, option_copied, find, range_with_len, is_order_open}
 use Rattle.ta_walk.specs.Values.{values_of}
 use Rattle.ta_moment_tree.specs.Moments.{moments_of}
 use Rattle.ta_walk.proofs.orders.order_before.Given as goal

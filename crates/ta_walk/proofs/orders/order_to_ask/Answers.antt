@@ -1,5 +1,4 @@
-use Rattle.std.proofs.Common.{sym, ◌∙◌}
-use Rattle.std.specs.Prelude.{length, option_copied}
+use Rattle.ta_walk.proofs.Common.{sym, ◌∙◌, length, option_copied}
 use Rattle.ta_walk.specs.Values.{values_of}
 use Rattle.ta_moment_tree.specs.Moments.{moments_of}
 use Rattle.ta_walk.proofs.Ordering.{order_next}

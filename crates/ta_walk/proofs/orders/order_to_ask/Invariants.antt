@@ -1,7 +1,4 @@
-use Rattle.std.proofs.Common.{◌≡◌, ◌-◌, length}
-use Rattle.std.specs.Prelude.{option_copied}
-use Rattle.std.specs.List.{range_with_len}
-use Rattle.ta_moments.specs.Questions.{first_order, order_to_ask}
+use Rattle.ta_walk.proofs.Common.{◌≡◌, ◌-◌, length, option_copied, range_with_len, first_order, order_to_ask}
 use Rattle.ta_walk.specs.Values.{values_of}
 use Rattle.ta_moment_tree.specs.Moments.{moments_of}
 use Rattle.ta_walk.proofs.orders.order_to_ask.Given as goal

@@ -1,14 +1,7 @@
-use Rattle.std.proofs.Common.{◌≡◌, ◌∙◌, List, [], reverse, Some, ap, sym, subst}
-use Rattle.std.specs.Option.{option_map}
+use Rattle.ta_walk.proofs.Common.{◌≡◌, ◌∙◌, List, [], reverse, Some, ap, sym, subst, option_map, MayAsk, Fact, next_question, asking_node, candidate_of}
+use Rattle.ta_walk.proofs.Common.{bounded_node, moment_maker, asking_of, search_of_moments}
 use Rattle.ta_cert.specs.declared.line.Node.{Node as TreeNode}
-use Rattle.ta_encode.specs.Search.{MayAsk}
-use Rattle.ta_moments.specs.declared.fact.Fact.{Fact}
-use Rattle.ta_moments.specs.Questions.{next_question}
-use Rattle.ta_moments.specs.Searched.{asking_node, candidate_of}
 use Rattle.ta_moments.specs.Vertices.{values_of}
-use Rattle.ta_moment_tree.specs.Systems.{bounded_node}
-use Rattle.ta_moment_tree.specs.Makers.{moment_maker}
-use Rattle.ta_moment_tree.specs.Trees.{asking_of, search_of_moments}
 use Rattle.ta_simplex.specs.Vertex.{parts_of}
 use Rattle.ta_walk.proofs.QuestionsAsked.{question_may}
 use Rattle.ta_walk.proofs.question.asked_at.Goals as goal

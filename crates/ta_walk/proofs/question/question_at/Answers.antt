@@ -1,9 +1,5 @@
-use Rattle.std.proofs.Common.{◌∙◌, ℕ, ◌≤◌, ◌^◌, [], refl, sym, subst}
-use Rattle.std.proofs.lemmas.Result.{IfOk-weaker}
-use Rattle.ta_moments.specs.Searched.{candidate_of}
+use Rattle.ta_walk.proofs.Common.{◌∙◌, ℕ, ◌≤◌, ◌^◌, [], refl, sym, subst, IfOk-weaker, candidate_of, moment_maker, asking_of}
 use Rattle.ta_moments.specs.Vertices.{values_of}
-use Rattle.ta_moment_tree.specs.Makers.{moment_maker}
-use Rattle.ta_moment_tree.specs.Trees.{asking_of}
 use Rattle.ta_simplex.specs.Vertex.{parts_of}
 use Rattle.ta_walk.proofs.FewMoments.{few_moments}
 use Rattle.ta_walk.proofs.NodesKnown.{moments_count, question_moved}

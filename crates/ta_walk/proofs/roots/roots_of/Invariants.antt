@@ -1,4 +1,4 @@
-use Rattle.std.proofs.Common.{◌-◌, length, vec_len}
+use Rattle.ta_walk.proofs.Common.{◌-◌, length, vec_len}
 use Rattle.ta_walk.proofs.RootsListed.{Listed}
 use Rattle.ta_walk.proofs.roots.roots_of.Given as goal
 

@@ -1,11 +1,7 @@
-use Rattle.std.proofs.Common.{◌≡◌, ◌∙◌, ◌++◌, ◌&&◌, Bool, Some, ap, sym}
-use Rattle.std.specs.List.{list_all}
+use Rattle.ta_walk.proofs.Common.{◌≡◌, ◌∙◌, ◌++◌, Bool, Some, ap, sym, list_all, IfOk-weaker, is_known_natural, known_value, forms_of, bound_forms}
+use Rattle.std.proofs.Common.{◌&&◌}
 use Rattle.std.proofs.lemmas.List.Folds.{list_all-append}
-use Rattle.std.proofs.lemmas.Result.{IfOk-weaker}
 use Rattle.ta_moments.specs.Forms.{UnknownForm}
-use Rattle.ta_moments.specs.Questions.{is_known_natural, known_value}
-use Rattle.ta_moment_tree.specs.Forms.{forms_of}
-use Rattle.ta_moment_tree.specs.Systems.{bound_forms}
 use Rattle.ta_walk.specs.Values.{values_of}
 use Rattle.ta_walk.proofs.scaling.all_met.Goals as goal
 

@@ -1,8 +1,5 @@
-use Rattle.std.proofs.Common.{◌∙◌, Option, Some, not, ap, refl}
-use Rattle.std.specs.Option.{is_some}
-use Rattle.ta_moments.specs.declared.fact.Question.{Question}
-use Rattle.ta_moment_tree.specs.Systems.{bounded_node}
-use Rattle.ta_moment_tree.specs.Trees.{asking_of}
+use Rattle.ta_walk.proofs.Common.{◌∙◌, Option, Some, ap, refl, is_some, Question, bounded_node, asking_of}
+use Rattle.std.proofs.Common.{not}
 use Rattle.ta_walk.proofs.NodesKnown.{question_moved, turned}
 use Rattle.ta_walk.specs.Values.{values_of}
 use Rattle.ta_walk.proofs.scaling.is_settled.Goals as goal

@@ -1,14 +1,8 @@
-use Rattle.std.proofs.Common.{◌∙◌, ◌++◌, ◌&&◌, Bool, List, not, Some, ap, refl, sym}
-use Rattle.std.specs.List.{list_all}
-use Rattle.std.specs.Option.{is_some}
-use Rattle.std.proofs.lemmas.Result.{IfOk-weaker}
-use Rattle.ta_linear.specs.declared.row.Row.{Row}
+use Rattle.ta_walk.proofs.Common.{◌∙◌, ◌++◌, Bool, List, Some, ap, refl, sym, list_all, is_some, IfOk-weaker, Row, is_known_natural, known_value, next_question}
+use Rattle.ta_walk.proofs.Common.{forms_of, bound_forms, bounded_node, asking_of}
+use Rattle.std.proofs.Common.{◌&&◌, not}
 use Rattle.ta_moments.specs.Forms.{UnknownForm}
-use Rattle.ta_moments.specs.Questions.{is_known_natural, known_value, next_question}
-use Rattle.ta_moment_tree.specs.Forms.{forms_of}
-use Rattle.ta_moment_tree.specs.Systems.{bound_forms, bounded_node}
 use Rattle.ta_walk.specs.Values.{values_of}
-use Rattle.ta_moment_tree.specs.Trees.{asking_of}
 use Rattle.ta_walk.proofs.NodesKnown.{may_is}
 use Rattle.ta_walk.proofs.scaling.may_take.Goals as goal
 

@@ -1,4 +1,5 @@
-use Rattle.std.proofs.Common.{◌∙◌, Bool, cond, Some, None, ap, sym}
+use Rattle.ta_walk.proofs.Common.{◌∙◌, Bool, Some, None, ap, sym}
+use Rattle.std.proofs.Common.{cond}
 use Rattle.ta_walk.proofs.scaling.taken.Goals as goal
 
 pub returns-then-may : goal.returns-then-may

@@ -1,4 +1,4 @@
-use Rattle.std.proofs.Common.{refl, subst}
+use Rattle.ta_walk.proofs.Common.{refl, subst}
 use Rattle.ta_witness.specs.Given.{MomentRunFault}
 use Rattle.ta_walk.proofs.showing.end_of.Goals as goal
 

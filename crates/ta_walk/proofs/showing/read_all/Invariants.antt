@@ -1,5 +1,4 @@
-use Rattle.std.proofs.Common.{pos, take, ◌<ℤ◌, ◌^◌}
-use Rattle.std.specs.List.{AllByRecursion}
+use Rattle.ta_walk.proofs.Common.{pos, take, ◌<ℤ◌, ◌^◌, AllByRecursion}
 use Rattle.ta_walk.proofs.showing.read_all.Given as goal
 
 abbrev pub invariant-loop-value : goal.invariant-loop-value

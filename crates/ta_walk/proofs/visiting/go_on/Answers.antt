@@ -1,9 +1,8 @@
-use Rattle.ta_walk.proofs.Common.{◌≡◌, Node, inl, inr, ◌<◌, ◌^◌, arith, refl, rules, FitsSigned, w128, here, SplitVertex}
-use Rattle.std.proofs.Common.{subst, to_z-of_z}
-use Rattle.ta_cert.specs.declared.line.Node.TheVariants as node
-use Rattle.ta_encode.specs.Asking.{AsksNothing}
+use Rattle.ta_walk.proofs.Common.{◌≡◌, Node, inl, inr, ◌<◌, ◌^◌, arith, refl, rules, FitsSigned, w128, here, SplitVertex, subst, AsksNothing}
+use Rattle.std.proofs.Common.{to_z-of_z}
 use Rattle.ta_walk.proofs.SplitsFit.{split_fits, split_within}
 use Rattle.ta_walk.proofs.WordSoFar.{inside_of}
+use Rattle.ta_cert.specs.declared.line.Node.TheVariants as node
 use Rattle.ta_walk.proofs.visiting.go_on.Goals as goal
 
 pub split-requires : goal.split-requires

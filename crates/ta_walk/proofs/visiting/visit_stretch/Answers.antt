@@ -1,34 +1,5 @@
-use Rattle.ta_walk.proofs.Common.{
-  ℕ,
-  ◌≡◌,
-  ◌+◌,
-  ◌≤◌,
-  [],
-  ◌∷◌,
-  ◌++◌,
-  ◌∙◌,
-  refl,
-  sym,
-  ap,
-  subst,
-  arith,
-  append_assoc,
-  append-nil,
-  IsShared,
-  here,
-  left_at,
-  Cursor,
-  IsSpent,
-  WholeNode,
-  leaf_count,
-  node_count,
-  RoseBy,
-  IsOutOfRangeAt,
-  NodeAt,
-  PartEnds,
-  TreeEnd,
-  beginning,
-}
+use Rattle.ta_walk.proofs.Common.{ℕ, ◌≡◌, ◌+◌, ◌≤◌, [], ◌∷◌, ◌++◌, ◌∙◌, refl, sym, ap, subst, arith, append_assoc, append-nil, IsShared, here, left_at, Cursor}
+use Rattle.ta_walk.proofs.Common.{IsSpent, WholeNode, leaf_count, node_count, RoseBy, IsOutOfRangeAt, NodeAt, PartEnds, TreeEnd, beginning}
 use Rattle.ta_walk.proofs.LeavesCounted.{leaves_below, leaves_few, leaves_more}
 use Rattle.ta_walk.proofs.NodesCounted.{rose_next}
 use Rattle.ta_walk.proofs.SearchesMoved.{moved_out_of_range, moved_whole}

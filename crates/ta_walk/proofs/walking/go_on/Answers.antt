@@ -1,8 +1,7 @@
-use Rattle.ta_walk.proofs.Common.{◌≡◌, Node, inl, inr, ◌<◌, ◌^◌, arith, refl, rules, FitsSigned, w128, here_at, SplitVertex}
-use Rattle.std.proofs.Common.{subst, to_z-of_z}
-use Rattle.ta_cert.specs.declared.line.Node.TheVariants as node
-use Rattle.ta_encode.specs.Asking.{AsksNothing}
+use Rattle.ta_walk.proofs.Common.{◌≡◌, Node, inl, inr, ◌<◌, ◌^◌, arith, refl, rules, FitsSigned, w128, here_at, SplitVertex, subst, AsksNothing}
+use Rattle.std.proofs.Common.{to_z-of_z}
 use Rattle.ta_walk.proofs.SplitsFit.{split_fits, split_within}
+use Rattle.ta_cert.specs.declared.line.Node.TheVariants as node
 use Rattle.ta_walk.proofs.walking.go_on.Goals as goal
 
 pub split-requires-clause-floor : goal.split-requires-clause-floor

@@ -1,6 +1,5 @@
-use Rattle.ta_witness.proofs.Common.{◌<◌, ◌≤ℤ◌, FitsSigned, ℤ, arith, get_or, length, pos, refl, rules, sym, to_z-of_z, w128, ◌∙◌, ints}
-use Rattle.ta_base.proofs.Each.{each_at}
-use Rattle.ta_moments.proofs.Common.{slice_get-get_or}
+use Rattle.ta_witness.proofs.Common.{◌<◌, ◌≤ℤ◌, FitsSigned, ℤ, arith, get_or, length, pos, refl, rules, sym, to_z-of_z, w128, ◌∙◌, ints, each_at}
+use Rattle.ta_witness.proofs.Common.{slice_get-get_or}
 use Rattle.ta_witness.proofs.Making.{look_next, look_found, look_end}
 use Rattle.ta_witness.proofs.known.value_of.Goals as goal
 

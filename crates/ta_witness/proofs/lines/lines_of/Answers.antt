@@ -1,6 +1,5 @@
 use Rattle.ta_witness.proofs.Common.{[], arith, refl, subst, sym, get_or, slice_get_within, take_all, AllByRecursion, Event, unknown_value, AddsPieces}
-use Rattle.ta_moments.proofs.Common.{slice_get-get_or}
-use Rattle.ta_replay.specs.Fits.{LineFits}
+use Rattle.ta_witness.proofs.Common.{slice_get-get_or, LineFits}
 use Rattle.ta_witness.proofs.Making.{lined_more}
 use Rattle.ta_witness.proofs.lines.lines_of.Goals as goal
 

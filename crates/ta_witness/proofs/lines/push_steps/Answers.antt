@@ -1,7 +1,5 @@
 use Rattle.ta_witness.proofs.Common.{◌∙◌, ◌++◌, ap, subst, ℕ, ℤ, List, map, take_all, AllByRecursion, step_line, rules, ◌<ℤ◌, ◌^◌, pos, arith, get_or}
-use Rattle.ta_witness.proofs.Common.{FitsSigned}
-use Rattle.ta_witness.proofs.Common.{w128, to_z-of_z, ints}
-use Rattle.std.proofs.lemmas.Result.{IfOk-from_err}
+use Rattle.ta_witness.proofs.Common.{FitsSigned, w128, to_z-of_z, ints, IfOk-from_err}
 use Rattle.ta_witness.proofs.Making.{steps_push}
 use Rattle.ta_witness.proofs.lines.push_steps.Goals as goal
 

@@ -1,12 +1,9 @@
-use Rattle.ta_moments.proofs.Common.{◌≡◌, ◌∙◌, ◌+◌, ◌++◌, ◌∷◌, [], pos, ◌≤ℤ◌, ℤ, List, Some, length, sym, ap, subst, slice_get-get_or, AllByRecursion}
-use Rattle.std.specs.Prelude.{take}
-use Rattle.std.proofs.lemmas.List.{take_all, take_more}
-use Rattle.ta_base.proofs.Each.{each_at}
-use Rattle.ta_witness.specs.Inside.StopLines.{AddsStop, AddsStops, StopFits, last_counts}
+use Rattle.ta_witness.proofs.Common.{slice_get-get_or, take, take_all, take_more, each_at, AddsStop, AddsStops, StopFits, last_counts}
+use Rattle.ta_moments.proofs.Common.{◌≡◌, ◌∙◌, ◌+◌, ◌++◌, ◌∷◌, [], pos, ◌≤ℤ◌, ℤ, List, Some, length, sym, ap, subst, AllByRecursion}
 use Rattle.ta_witness.specs.declared.stop.Stop.{Stop}
 use Rattle.ta_witness.proofs.Lining.{last_more, stops_more}
-use Rattle.ta_witness.proofs.moment_lines.lines_of.Goals as goal
 use Rattle.ta_witness.proofs.moment_lines.lines_of.Goals.{After-as_slice-after}
+use Rattle.ta_witness.proofs.moment_lines.lines_of.Goals as goal
 
 -- the stop at hand has all counts, and its event exists
 stop_fits : (c : After-as_slice-after) → StopFits c.args.scoped.now.file.automaton c.args.pattern.now c.stop-item.result

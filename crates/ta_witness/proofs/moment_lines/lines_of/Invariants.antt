@@ -1,6 +1,4 @@
-use Rattle.std.specs.Prelude.{◌≡◌, pos, ◌≤ℤ◌, [], length, take}
-use Rattle.std.specs.List.{AllByRecursion}
-use Rattle.ta_witness.specs.Inside.StopLines.{AddsStops, last_counts}
+use Rattle.ta_witness.proofs.Common.{◌≡◌, pos, ◌≤ℤ◌, [], length, take, AllByRecursion, AddsStops, last_counts}
 use Rattle.ta_witness.proofs.moment_lines.lines_of.Given as goal
 
 -- the lines of the earlier stops are there, and the counts are those of the last of them

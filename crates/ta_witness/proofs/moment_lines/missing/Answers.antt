@@ -1,9 +1,5 @@
-use Rattle.std.proofs.Common.{rules, pos, get_or, FitsSigned}
+use Rattle.ta_witness.proofs.Common.{rules, pos, get_or, FitsSigned, w128, to_z-of_z, count_at, gap}
 use Rattle.ta_moments.proofs.Common.{◌∙◌}
-use Rattle.std.specs.Int.{w128}
-use Rattle.std.proofs.lemmas.Int.{to_z-of_z}
-use Rattle.ta_scope.specs.Arranged.{count_at}
-use Rattle.ta_witness.specs.Inside.StopLines.{gap}
 use Rattle.ta_witness.proofs.Lining.{numbers_more}
 use Rattle.ta_witness.proofs.moment_lines.missing.Goals as goal
 

@@ -1,7 +1,4 @@
-use Rattle.std.specs.Prelude.{◌≡◌, map}
-use Rattle.std.specs.List.{range_with_len}
-use Rattle.ta_scope.specs.Arranged.{count_at}
-use Rattle.ta_witness.specs.Inside.StopLines.{gap}
+use Rattle.ta_witness.proofs.Common.{◌≡◌, map, range_with_len, count_at, gap}
 use Rattle.ta_witness.proofs.moment_lines.missing.Given as goal
 
 -- those of the earlier rules

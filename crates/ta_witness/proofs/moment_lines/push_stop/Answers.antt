@@ -1,7 +1,5 @@
+use Rattle.ta_witness.proofs.Common.{◌^◌, ◌<ℤ◌, step_line, AreRuleCounts, ArrangedOf}
 use Rattle.ta_moments.proofs.Common.{◌≡◌, ◌∙◌, ◌++◌, ℕ, ℤ, pos, List, map, sym, subst, AllByRecursion}
-use Rattle.std.specs.Prelude.{◌^◌, ◌<ℤ◌}
-use Rattle.ta_replay.specs.Pieces.{step_line}
-use Rattle.ta_scope.specs.Arranged.{AreRuleCounts, ArrangedOf}
 use Rattle.ta_witness.proofs.Lining.{gaps_are, stop_added}
 use Rattle.ta_witness.proofs.moment_lines.push_stop.Goals as goal
 

@@ -1,15 +1,10 @@
+use Rattle.ta_witness.proofs.Common.{length-take, Meaning, Parameter, Start, RunLine, AreNaturals, AreValues, AddsStops, StopFits, MomentWithin, listed}
+use Rattle.ta_witness.proofs.Common.{no_counts}
 use Rattle.ta_moments.proofs.Common.{◌≡◌, ◌≤◌, ℕ, ℤ, pos, ◌≤ℤ◌, List, [], length, map, take, arith, sym, ap, ◌∙◌, refl, subst, slice_get_within, range_with_len}
 use Rattle.ta_moments.proofs.Common.{AllByRecursion}
-use Rattle.std.proofs.lemmas.List.{length-take}
-use Rattle.ta_encode.specs.declared.meaning.Meaning.{Meaning}
-use Rattle.ta_encode.specs.declared.meaning.Meaning.TheVariants.{Parameter, Start}
 use Rattle.ta_moment_tree.specs.declared.moment.Moment.{Moment}
-use Rattle.ta_replay.specs.declared.run.RunLine.{RunLine}
-use Rattle.ta_witness.specs.Inside.Making.{AreNaturals, AreValues}
 use Rattle.ta_witness.specs.Values.{unknown_value}
-use Rattle.ta_witness.specs.Inside.StopLines.{AddsStops, StopFits}
-use Rattle.ta_witness.specs.Inside.Stops.{MomentWithin, shapes_from, with_shapes}
-use Rattle.ta_witness.specs.Stops.{listed, no_counts}
+use Rattle.ta_witness.specs.Inside.Stops.{shapes_from, with_shapes}
 use Rattle.ta_witness.specs.declared.stop.Stop.{Stop}
 use Rattle.ta_witness.proofs.Listing.{are_listed}
 use Rattle.ta_witness.proofs.MakingRuns.{few_events, fit_stops, front_known, moments_within, starts_within}

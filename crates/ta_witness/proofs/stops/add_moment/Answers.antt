@@ -1,7 +1,6 @@
+use Rattle.ta_witness.proofs.Common.{Form, Shape, form_values, moment_shapes, moving_counts, mark_at, shape}
 use Rattle.ta_moments.proofs.Common.{subst, ap, sym, ◌∙◌, ◌≡◌, ℕ, List, [], ◌∷◌, map, Option, None}
 use Rattle.std.specs.Prelude.{OnOk}
-use Rattle.ta_linear.specs.declared.form.Form.{Form}
-use Rattle.ta_witness.specs.Inside.Stops.{Shape, form_values, moment_shapes, moving_counts, mark_at, shape}
 use Rattle.ta_witness.proofs.Placing.{one_shape, two_shapes}
 use Rattle.ta_witness.proofs.stops.add_moment.Goals as goal
 

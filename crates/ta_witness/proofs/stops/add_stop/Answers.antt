@@ -1,5 +1,5 @@
+use Rattle.ta_witness.proofs.Common.{Places}
 use Rattle.ta_moments.proofs.Common.{List, ℤ, subst}
-use Rattle.ta_witness.specs.Inside.Stops.{Places}
 use Rattle.ta_witness.specs.declared.stop.Stop.{Stop}
 use Rattle.ta_witness.proofs.Placing.{inserted}
 use Rattle.ta_witness.proofs.stops.add_stop.Goals as goal

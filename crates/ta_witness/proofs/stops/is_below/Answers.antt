@@ -1,11 +1,5 @@
-use Rattle.std.proofs.Common.{rules, FitsSigned}
-use Rattle.std.specs.Int.{w128}
-use Rattle.std.proofs.lemmas.Int.{to_z-of_z}
+use Rattle.ta_witness.proofs.Common.{rules, FitsSigned, w128, to_z-of_z, int_lt, ◌||◌, any_below-at, any_below-next, any_below-none, any_below, count_at}
 use Rattle.ta_moments.proofs.Common.{ℕ, Bool, ◌<◌, ◌≡◌, length, arith, sym, ap, ◌∙◌, true, false}
-use Rattle.std.specs.Prelude.{int_lt, ◌||◌}
-use Rattle.ta_base.proofs.Bits.{any_below-at, any_below-next, any_below-none}
-use Rattle.ta_base.specs.Masks.{any_below}
-use Rattle.ta_scope.specs.Arranged.{count_at}
 use Rattle.ta_witness.proofs.stops.is_below.Goals as goal
 
 pub loop-rule-init : goal.loop-rule-init

@@ -1,6 +1,4 @@
-use Rattle.std.specs.Prelude.{◌≡◌, false, int_lt}
-use Rattle.ta_base.specs.Masks.{any_below}
-use Rattle.ta_scope.specs.Arranged.{count_at}
+use Rattle.ta_witness.proofs.Common.{◌≡◌, false, int_lt, any_below, count_at}
 use Rattle.ta_witness.proofs.stops.is_below.Given as goal
 
 -- no earlier rule fired less often

@@ -1,5 +1,5 @@
+use Rattle.ta_witness.proofs.Common.{is_below}
 use Rattle.ta_moments.proofs.Common.{List, ℕ, ℤ, ◌≡◌, length, arith, subst, sym, ap, ◌∙◌}
-use Rattle.ta_witness.specs.Inside.Stops.{is_below}
 use Rattle.ta_witness.specs.declared.stop.Stop.{Stop}
 use Rattle.ta_witness.proofs.Placing.{Behind, placed_here, placed_last, placed_next}
 use Rattle.ta_witness.proofs.stops.place_of.Goals as goal

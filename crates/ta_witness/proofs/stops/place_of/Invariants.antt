@@ -1,5 +1,5 @@
-use Rattle.std.specs.Prelude.{◌≡◌, ◌++◌, drop, map, take}
-use Rattle.ta_witness.specs.Inside.Stops.{Shape, shape, with_shape}
+use Rattle.ta_witness.proofs.Common.{◌≡◌, ◌++◌, drop, map, take, Shape, shape}
+use Rattle.ta_witness.specs.Inside.Stops.{with_shape}
 use Rattle.ta_witness.proofs.stops.place_of.Given as goal
 
 -- it goes behind the earlier stops

@@ -1,5 +1,5 @@
+use Rattle.ta_witness.proofs.Common.{shape}
 use Rattle.ta_moments.proofs.Common.{ap, map}
-use Rattle.ta_witness.specs.Inside.Stops.{shape}
 use Rattle.ta_witness.proofs.Placing.{none_placed, one_placed}
 use Rattle.ta_witness.proofs.stops.stops_of.Goals as goal
 

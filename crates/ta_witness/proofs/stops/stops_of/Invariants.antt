@@ -1,7 +1,5 @@
-use Rattle.std.specs.Prelude.{◌≡◌, ◌≤◌, [], drop, length, map}
-use Rattle.std.specs.List.{AllByRecursion}
-use Rattle.ta_witness.specs.Given.{MomentStays}
-use Rattle.ta_witness.specs.Inside.Stops.{shape, shapes_from, with_shapes}
+use Rattle.ta_witness.proofs.Common.{◌≡◌, ◌≤◌, [], drop, length, map, AllByRecursion, MomentStays, shape}
+use Rattle.ta_witness.specs.Inside.Stops.{shapes_from, with_shapes}
 use Rattle.ta_witness.proofs.stops.stops_of.Given as goal
 
 -- the stops of the later moments are there

@@ -1,15 +1,7 @@
 use Rattle.ta_witness.proofs.Common.{◌∙◌, ◌≡◌, ◌+◌, ◌++◌, ◌∷◌, [], ap, rules, Some, subst, sym, take, take_more, take_all, each_push, FitsSigned, w128}
-use Rattle.ta_witness.proofs.Common.{to_z-of_z, AllByRecursion}
-use Rattle.ta_base.proofs.Each.{each_at}
+use Rattle.ta_witness.proofs.Common.{to_z-of_z, AllByRecursion, each_at, IsNormal, point_of, value_of, Form, slice_get-get_or, IfOk-from_err, length}
+use Rattle.ta_witness.proofs.Common.{VectorStays, form_values}
 use Rattle.ta_linear.specs.Sums.{StaysInRange}
-use Rattle.ta_linear.specs.Terms.{IsNormal}
-use Rattle.ta_linear.specs.Values.{point_of, value_of}
-use Rattle.ta_linear.specs.declared.form.Form.{Form}
-use Rattle.ta_moments.proofs.Common.{slice_get-get_or}
-use Rattle.std.proofs.lemmas.Result.{IfOk-from_err}
-use Rattle.std.specs.Prelude.{length}
-use Rattle.ta_witness.specs.Given.{VectorStays}
-use Rattle.ta_witness.specs.Inside.Stops.{form_values}
 use Rattle.ta_witness.proofs.Mapped.{mapped_more}
 use Rattle.ta_witness.proofs.values.form_values.Goals as goal
 

@@ -1,6 +1,4 @@
-use Rattle.std.specs.Prelude.{◌≡◌, take}
-use Rattle.ta_witness.specs.Given.{VectorStays}
-use Rattle.ta_witness.specs.Inside.Stops.{form_values}
+use Rattle.ta_witness.proofs.Common.{◌≡◌, take, VectorStays, form_values}
 use Rattle.ta_witness.proofs.values.form_values.Given as goal
 
 -- the values of the earlier forms

@@ -1,9 +1,6 @@
-use Rattle.std.proofs.Common.{rules, pos, cond, slice_get, FitsSigned}
+use Rattle.ta_witness.proofs.Common.{rules, pos, cond, slice_get, FitsSigned, w128, to_z-of_z, count_at}
 use Rattle.ta_moments.proofs.Common.{◌∙◌}
-use Rattle.std.specs.Int.{w128}
-use Rattle.std.proofs.lemmas.Int.{to_z-of_z}
 use Rattle.ta_moments.specs.Facts.{is_moving}
-use Rattle.ta_scope.specs.Arranged.{count_at}
 use Rattle.ta_witness.proofs.Lining.{numbers_more}
 use Rattle.ta_witness.proofs.values.moving_counts.Goals as goal
 

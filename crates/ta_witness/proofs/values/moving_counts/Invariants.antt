@@ -1,7 +1,5 @@
-use Rattle.std.specs.Prelude.{◌≡◌, pos, cond, map, slice_get}
-use Rattle.std.specs.List.{range_with_len}
+use Rattle.ta_witness.proofs.Common.{◌≡◌, pos, cond, map, slice_get, range_with_len, count_at}
 use Rattle.ta_moments.specs.Facts.{is_moving}
-use Rattle.ta_scope.specs.Arranged.{count_at}
 use Rattle.ta_witness.proofs.values.moving_counts.Given as goal
 
 -- those of the earlier rules

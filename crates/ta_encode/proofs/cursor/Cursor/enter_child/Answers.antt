@@ -1,7 +1,7 @@
+use Rattle.ta_encode.proofs.Common.{Asks}
 use Rattle.ta_encode.proofs.CursorCommon.{◌≡◌, ◌++◌, ◌∷◌, [], refl, sym, reverse, subst, length, append-nil, List, None, slice_get, answered, ask_node}
 use Rattle.ta_encode.proofs.CursorCommon.{IsAnswer}
 use Rattle.ta_encode.proofs.FramesParts.{opened_child, no_child_left}
-use Rattle.ta_encode.specs.declared.ask.Inner.TheVariants.{Asks}
 use Rattle.ta_encode.proofs.cursor.Cursor.enter_child.Goals as goal
 
 pub returns-in_default : goal.returns-in_default

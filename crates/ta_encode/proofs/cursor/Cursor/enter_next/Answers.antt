@@ -1,6 +1,6 @@
+use Rattle.ta_encode.proofs.Common.{Splits}
 use Rattle.ta_encode.proofs.CursorCommon.{◌≡◌, ℕ, ℤ, ◌+◌, ◌++◌, FitsSigned, arith, rules, reverse, drop, subst, w128, to_z-of_z, Split, parts, SplitFits}
 use Rattle.ta_encode.proofs.CursorCommon.{Within}
-use Rattle.ta_encode.specs.declared.ask.Inner.TheVariants.{Splits}
 use Rattle.ta_encode.proofs.cursor.Cursor.enter_next.Goals as goal
 
 pub returns-in_ok-enter_side-in-Splits : goal.returns-in_ok-enter_side-in-Splits

@@ -1,5 +1,5 @@
+use Rattle.ta_encode.proofs.Common.{Splits}
 use Rattle.ta_encode.proofs.CursorCommon.{◌≡◌, ◌++◌, ◌∷◌, [], refl, sym, rules, length, FitsSigned, w128, to_z-of_z, append-nil}
-use Rattle.ta_encode.specs.declared.ask.Inner.TheVariants.{Splits}
 use Rattle.ta_encode.proofs.FramesParts.{opened_side}
 use Rattle.ta_encode.proofs.cursor.Cursor.enter_side.Goals as goal
 

@@ -1,4 +1,4 @@
-use Rattle.std.proofs.Common.{length}
+use Rattle.ta_encode.proofs.Common.{length}
 use Rattle.ta_encode.proofs.FramesLeft.{Leaving}
 use Rattle.ta_encode.proofs.cursor.Cursor.leave.Given as goal
 

@@ -1,4 +1,4 @@
-use Rattle.std.proofs.Common.{◌≡◌, ◌++◌, ◌∷◌, [], refl, arith, length, length-append, ap}
+use Rattle.ta_encode.proofs.Common.{◌≡◌, ◌++◌, ◌∷◌, [], refl, arith, length, length-append, ap}
 use Rattle.ta_encode.proofs.FramesKept.{reopened}
 use Rattle.ta_encode.proofs.cursor.Cursor.pop_frame.Goals as goal
 

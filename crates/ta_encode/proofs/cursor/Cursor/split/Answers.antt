@@ -1,5 +1,5 @@
+use Rattle.ta_encode.proofs.Common.{Splits}
 use Rattle.ta_encode.proofs.CursorCommon.{ℤ, ◌++◌, FitsSigned, reverse, rules, subst, w128, to_z-of_z, Split, parts, SplitFits, WentOn}
-use Rattle.ta_encode.specs.declared.ask.Inner.TheVariants.{Splits}
 use Rattle.ta_encode.proofs.cursor.Cursor.split.Goals as goal
 
 pub returns : goal.returns

@@ -1,4 +1,4 @@
-use Rattle.std.proofs.Common.{refl}
+use Rattle.ta_encode.proofs.Common.{refl}
 use Rattle.ta_encode.proofs.TreesLeft.{none_begins, first_begins}
 use Rattle.ta_encode.proofs.cursor_place.Place.first.Goals as goal
 

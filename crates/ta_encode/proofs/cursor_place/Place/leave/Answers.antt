@@ -1,4 +1,4 @@
-use Rattle.std.proofs.Common.{◌+◌, drop}
+use Rattle.ta_encode.proofs.Common.{◌+◌, drop}
 use Rattle.ta_encode.proofs.TreesLeft.{at_here, tree_goes_on, tree_ends}
 use Rattle.ta_encode.proofs.cursor_place.Place.leave.Goals as goal
 

@@ -1,4 +1,4 @@
-use Rattle.std.proofs.Common.{◌+◌, refl}
+use Rattle.ta_encode.proofs.Common.{◌+◌, refl}
 use Rattle.ta_encode.proofs.TreesLeft.{root_none, root_comes}
 use Rattle.ta_encode.proofs.cursor_place.Place.next_root.Goals as goal
 

@@ -1,4 +1,4 @@
-use Rattle.std.proofs.Common.{length, arith, ap, ◌∙◌}
+use Rattle.ta_encode.proofs.Common.{length, arith, ap, ◌∙◌}
 use Rattle.ta_encode.proofs.Smallness.{resilience_small}
 use Rattle.ta_encode.proofs.Drafts.{opened, start_few, start_small}
 use Rattle.ta_encode.proofs.draft.Draft.begin.Goals as goal

@@ -1,8 +1,5 @@
 use Rattle.ta_encode.proofs.Common.{◌≡◌, ℕ, ◌∷◌, List, Bool, length, not, arith, refl, sym, ap, subst, has_bit, Meaning, Automaton, counter_row, LinearRow}
-use Rattle.std.specs.Vec.Iter.{into_iter_items}
-use Rattle.ta_encode.specs.Inside.Sparse.{Sparse}
-use Rattle.ta_encode.specs.Inside.Counters.{AreCounters, counter_coefficient, terms_in}
-use Rattle.ta_encode.specs.declared.counters.Counter.{Counter}
+use Rattle.ta_encode.proofs.Common.{into_iter_items, Sparse, AreCounters, counter_coefficient, terms_in, Counter}
 use Rattle.ta_encode.proofs.Adding.{adds_more, adds_nothing}
 use Rattle.ta_encode.proofs.CounterRows.{AreFrom, all_from, first_from, passed_step}
 use Rattle.ta_encode.proofs.draft.Draft.push_all_counters.Goals as goal

@@ -1,5 +1,5 @@
-use Rattle.ta_encode.proofs.Common.{◌≡◌, ◌+◌, filter, has_bit, length, map, not, range_with_len, Adds, counter_row}
-use Rattle.std.specs.Vec.Iter.{into_iter_items, into_iter_len}
+use Rattle.ta_encode.proofs.Common.{◌≡◌, ◌+◌, filter, has_bit, length, map, not, range_with_len, Adds, counter_row, into_iter_items}
+use Rattle.std.specs.Vec.Iter.{into_iter_len}
 use Rattle.ta_encode.proofs.CounterRows.{AreFrom}
 use Rattle.ta_encode.proofs.draft.Draft.push_all_counters.Given as goal
 

@@ -1,5 +1,4 @@
-use Rattle.ta_encode.proofs.Common.{ℕ, ℤ, ◌≡◌, ◌∙◌, length, subst, to_z_range, IsNormal, IsRowOf, block_row}
-use Rattle.std.proofs.lemmas.Result.{on_ok_weaker}
+use Rattle.ta_encode.proofs.Common.{ℕ, ℤ, ◌≡◌, ◌∙◌, length, subst, to_z_range, IsNormal, IsRowOf, block_row, on_ok_weaker}
 use Rattle.ta_encode.proofs.draft.Draft.push_block.Goals as goal
 
 pub push_row-requires : goal.push_row-requires

@@ -1,8 +1,8 @@
 use Rattle.ta_encode.proofs.Common.{◌≡◌, ℕ, Bool, ◌+◌, not, arith, ◌<◌, ap, sym, subst, length, has_bit, bit_off, bit_on, passed_none, passed_one}
 use Rattle.ta_encode.proofs.Common.{location_place, Automaton, LinearRow, counter_row, Adds, in_sense}
 use Rattle.ta_encode.proofs.Adding.{adds_alike, adds_more}
-use Rattle.ta_encode.proofs.draft.Draft.push_each_counter.Goals as goal
 use Rattle.ta_encode.proofs.draft.Draft.push_each_counter.Goals.{then-empty-location-eq0+in_ok-push_counter, else-empty-location-eq0}
+use Rattle.ta_encode.proofs.draft.Draft.push_each_counter.Goals as goal
 
 pub loop-location-preserved : goal.loop-location-preserved
 loop-location-preserved c =

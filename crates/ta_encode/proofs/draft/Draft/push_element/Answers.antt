@@ -1,9 +1,8 @@
-use Rattle.ta_encode.proofs.Common.{Origin, Draft, Automaton, ◌≡◌}
-use Rattle.ta_encode.proofs.Common.{true, false, ◌<◌, ◌^◌, ◌+◌, ◌≤◌, ◌∷◌, length, reverse, arith, sym, ap, ◌∙◌, subst, length-reverse, Element, counts_after}
-use Rattle.ta_encode.proofs.Common.{AddsUnknowns, Continues, length-append}
+use Rattle.ta_encode.proofs.Common.{Origin, Draft, Automaton, ◌≡◌, true, false, ◌<◌, ◌^◌, ◌+◌, ◌≤◌, ◌∷◌, length, reverse, arith, sym, ap, ◌∙◌, subst}
+use Rattle.ta_encode.proofs.Common.{length-reverse, Element, counts_after, AddsUnknowns, Continues, length-append}
 use Rattle.ta_encode.proofs.Drafts.{fired_after, counts_few, draft_few, event_drafted, events_small, fall_drafted, fallen_more, rise_drafted}
-use Rattle.ta_encode.proofs.draft.Draft.push_element.Goals as goal
 use Rattle.ta_encode.proofs.draft.Draft.push_element.Goals.{In_ok-push_firings}
+use Rattle.ta_encode.proofs.draft.Draft.push_element.Goals as goal
 
 -- the unknowns with the Counts of the element
 counts : (c : In_ok-push_firings) → AddsUnknowns

@@ -1,8 +1,8 @@
 use Rattle.ta_encode.proofs.Common.{map, take, arith, ◌<◌, [], ◌∷◌, ◌++◌, ap, sym, ◌∙◌, subst, bit_off, bit_on, Row, has_bit, form_row, guard_rows, Adds}
 use Rattle.ta_encode.proofs.Common.{in_sense}
 use Rattle.ta_encode.proofs.Adding.{adds_alike, adds_more, guard_taken, guard_left}
-use Rattle.ta_encode.proofs.draft.Draft.push_guards.Goals as goal
 use Rattle.ta_encode.proofs.draft.Draft.push_guards.Goals.{then-mask-number-ne0+in_ok-push_form, else-mask-number-ne0}
+use Rattle.ta_encode.proofs.draft.Draft.push_guards.Goals as goal
 
 pub loop-number-preserved : goal.loop-number-preserved
 loop-number-preserved c =

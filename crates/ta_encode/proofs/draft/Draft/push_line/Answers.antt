@@ -1,5 +1,5 @@
 use Rattle.ta_encode.proofs.Common.{ap, arith, ◌<◌, ◌^◌, ◌∙◌, subst, unsigned_abs, to_z_range, IsRowOf, line_row, constant_in_sense, in_sense, Plain}
-use Rattle.std.proofs.lemmas.Result.{on_ok_weaker}
+use Rattle.ta_encode.proofs.Common.{on_ok_weaker}
 use Rattle.ta_encode.proofs.Adding.{line_in_sense}
 use Rattle.ta_encode.proofs.draft.Draft.push_line.Goals as goal
 

@@ -1,6 +1,5 @@
-use Rattle.ta_encode.proofs.Common.{List, length, refl}
+use Rattle.ta_encode.proofs.Common.{List, length, refl, Meaning}
 use Rattle.ta_encode.proofs.Adding.{adds_one}
-use Rattle.ta_encode.specs.Unknowns.{Meaning}
 use Rattle.ta_encode.proofs.draft.Draft.push_row.Goals as goal
 
 pub returns : goal.returns

@@ -1,5 +1,4 @@
-use Rattle.ta_encode.proofs.Common.{◌≤◌, ◌^◌, ◌∷◌, [], length, cond, not, arith, sym, ap, ◌∙◌, subst, IsNormal, IsNormal-higher, counter_row}
-use Rattle.std.proofs.lemmas.Result.{on_ok_weaker}
+use Rattle.ta_encode.proofs.Common.{◌≤◌, ◌^◌, ◌∷◌, [], length, cond, not, arith, sym, ap, ◌∙◌, subst, IsNormal, IsNormal-higher, counter_row, on_ok_weaker}
 use Rattle.ta_encode.proofs.Adding.{adds_alike, adds_nothing}
 use Rattle.ta_encode.proofs.CounterRows.{counter_written}
 use Rattle.ta_encode.proofs.draft.Draft.push_written.Goals as goal

@@ -1,10 +1,9 @@
 use Rattle.ta_encode.proofs.Common.{List, map, pos, ◌≡◌, ◌+◌, ◌≤◌, ◌^◌, ◌++◌, ◌∷◌, [], length, arith, sym, ap, ◌∙◌, subst, is_none, not_none, to_z_range}
-use Rattle.ta_encode.proofs.Common.{InRange, IsNormal, coefficient, IsNormal-higher, slice_index_or, Meaning, line_coefficient}
+use Rattle.ta_encode.proofs.Common.{InRange, IsNormal, coefficient, IsNormal-higher, slice_index_or, Meaning, line_coefficient, Sparse}
 use Rattle.ta_encode.specs.declared.meaning.Meaning.TheVariants.{Parameter}
-use Rattle.ta_encode.specs.Inside.Sparse.{Sparse}
 use Rattle.ta_encode.proofs.Sparse.{sparse_push, sparse_skip, sparse_all}
-use Rattle.ta_encode.proofs.draft.Draft.row_of.Goals as goal
 use Rattle.ta_encode.proofs.draft.Draft.row_of.Goals.{then-coefficient-ne0+in_ok-push, else-coefficient-ne0}
+use Rattle.ta_encode.proofs.draft.Draft.row_of.Goals as goal
 
 pub invariant_of-result : goal.invariant_of-result
 invariant_of-result c =

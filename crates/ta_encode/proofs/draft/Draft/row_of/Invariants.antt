@@ -1,5 +1,4 @@
-use Rattle.ta_encode.specs.Lines.{line_coefficient}
-use Rattle.ta_encode.specs.Inside.Sparse.{Sparse}
+use Rattle.ta_encode.proofs.Common.{line_coefficient, Sparse}
 use Rattle.ta_encode.proofs.draft.Draft.row_of.Given as goal
 
 abbrev pub invariant-loop-unknown : goal.invariant-loop-unknown

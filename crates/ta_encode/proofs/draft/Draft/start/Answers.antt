@@ -1,5 +1,4 @@
-use Rattle.std.proofs.Common.{length, sym, subst, ◌≤◌}
-use Rattle.ta_automaton.specs.declared.automaton.Automaton.{Automaton}
+use Rattle.ta_encode.proofs.Common.{length, sym, subst, ◌≤◌, Automaton}
 use Rattle.ta_encode.proofs.Drafts.{start_drafted}
 use Rattle.ta_encode.proofs.draft.Draft.start.Goals as goal
 

@@ -3,8 +3,8 @@ use Rattle.ta_meaning.proofs.Common.{subst, List, ℕ, Distinct}
 use Rattle.ta_meaning.proofs.ListedNames.{outside_part, has_name-at, has_key, has_name-along}
 use Rattle.ta_meaning.proofs.UsedNames.{unknown, wrong_kind, rightly_used}
 use Rattle.ta_base.proofs.ByteLists.{key_at}
-use Rattle.ta_meaning.proofs.names.NameList.number_in.Goals as goal
 use Rattle.ta_meaning.proofs.names.NameList.number_in.Goals.{then-number-from-via-then-number-from, then-number-from-via-else-number-from+then-to-number}
+use Rattle.ta_meaning.proofs.names.NameList.number_in.Goals as goal
 
 pub returns-in_default : goal.returns-in_default
 returns-in_default c =

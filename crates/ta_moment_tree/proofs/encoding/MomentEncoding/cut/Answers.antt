@@ -1,7 +1,4 @@
-use Rattle.ta_moment_tree.proofs.Common.{◌∙◌, ap, Row}
-use Rattle.ta_moments.specs.Moments.{Known}
-use Rattle.ta_moment_tree.specs.Forms.{form_of, forms_of}
-use Rattle.ta_moment_tree.specs.Moments.{moment_of, moments_of}
+use Rattle.ta_moment_tree.proofs.Common.{◌∙◌, ap, Row, Known, form_of, forms_of, moment_of, moments_of}
 use Rattle.ta_moment_tree.proofs.AddedFacts.{known_same}
 use Rattle.ta_moment_tree.proofs.Cutting.{moments_taken, rows_taken}
 use Rattle.ta_moment_tree.proofs.encoding.MomentEncoding.cut.Goals as goal

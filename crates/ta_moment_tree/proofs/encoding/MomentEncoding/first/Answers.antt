@@ -1,7 +1,4 @@
-use Rattle.ta_moment_tree.proofs.Common.{[], sym, subst, In}
-use Rattle.ta_automaton.specs.declared.task.Task.{Task}
-use Rattle.ta_moments.specs.Facts.{candidates}
-use Rattle.ta_moment_tree.specs.Draft.{IsDraft}
+use Rattle.ta_moment_tree.proofs.Common.{[], sym, subst, In, Task, candidates, IsDraft}
 use Rattle.ta_moment_tree.proofs.encoding.MomentEncoding.first.Goals as goal
 
 pub returns-clause-node : goal.returns-clause-node

@@ -1,7 +1,4 @@
-use Rattle.ta_moment_tree.proofs.Common.{◌∙◌, length, ap, sym, length-map, Row}
-use Rattle.ta_moments.specs.Moments.{Known}
-use Rattle.ta_moment_tree.specs.Forms.{form_of}
-use Rattle.ta_moment_tree.specs.Moments.{moment_of}
+use Rattle.ta_moment_tree.proofs.Common.{◌∙◌, length, ap, sym, length-map, Row, Known, form_of, moment_of}
 use Rattle.ta_moment_tree.proofs.encoding.MomentEncoding.mark.Goals as goal
 
 pub returns-clause-mark : goal.returns-clause-mark

@@ -1,9 +1,6 @@
-use Rattle.ta_moment_tree.proofs.Common.{◌≡◌, ◌∙◌, ℕ, Bool, List, [], cond, map, ap, sym, subst, Form}
-use Rattle.ta_moments.specs.Moments.{Known, Vector, end_vector}
+use Rattle.ta_moment_tree.proofs.Common.{◌≡◌, ◌∙◌, ℕ, Bool, List, [], cond, map, ap, sym, subst, Form, Known, Vector, end_vector, SmallVector, vector_of}
+use Rattle.ta_moment_tree.proofs.Common.{moments_of, guard_of, rule_of}
 use Rattle.ta_moments.specs.Questions.{guards_at_end, rules_at_end}
-use Rattle.ta_moment_tree.specs.Forms.{SmallVector, vector_of}
-use Rattle.ta_moment_tree.specs.Moments.{moments_of}
-use Rattle.ta_moment_tree.specs.Parts.{guard_of, rule_of}
 use Rattle.ta_moment_tree.proofs.PartsAtEnd.{end_fits, parts_same}
 use Rattle.ta_moment_tree.proofs.encoding.MomentEncoding.parts.Goals as goal
 

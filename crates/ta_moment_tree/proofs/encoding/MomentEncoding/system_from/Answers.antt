@@ -1,14 +1,11 @@
-use Rattle.ta_moment_tree.proofs.Common.{◌≡◌, ◌∙◌, ◌++◌, List, ℕ, map, ap, sym, subst, AllByRecursion, AreRowsOf, Option, bound_row, Row}
-use Rattle.ta_moments.specs.Laws.{Speaks}
-use Rattle.ta_moments.specs.Moments.{Known, known}
-use Rattle.ta_moments.specs.Searched.{row_of_form}
+use Rattle.ta_moment_tree.proofs.Common.{◌≡◌, ◌∙◌, ◌++◌, List, ℕ, map, ap, sym, subst, AllByRecursion, AreRowsOf, Option, bound_row, Row, Speaks, Known}
+use Rattle.ta_moment_tree.proofs.Common.{row_of_form, forms_of, bound_forms}
+use Rattle.ta_moments.specs.Moments.{known}
 use Rattle.ta_moments.proofs.Speaking.{rows_speak}
-use Rattle.ta_moment_tree.specs.Forms.{forms_of}
-use Rattle.ta_moment_tree.specs.Systems.{bound_forms}
 use Rattle.ta_moment_tree.proofs.Adding.{adds_forms}
 use Rattle.ta_moment_tree.proofs.Systems.{back, floors_within, rows_of_forms, rows_of_lines, system_below}
-use Rattle.ta_moment_tree.proofs.encoding.MomentEncoding.system_from.Goals as goal
 use Rattle.ta_moment_tree.proofs.encoding.MomentEncoding.system_from.Goals.{In_ok-push_bounds}
+use Rattle.ta_moment_tree.proofs.encoding.MomentEncoding.system_from.Goals as goal
 
 -- what is written: the node's rows, and those of the bounds
 written : (c : In_ok-push_bounds) → forms_of c.push_bounds.new.rows.items ≡ forms_of c.args.self.now.draft.rows.items ++ bound_forms c.args.bounds.now

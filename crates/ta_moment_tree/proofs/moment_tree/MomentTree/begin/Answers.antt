@@ -1,14 +1,6 @@
-use Rattle.std.proofs.Common.{ℕ, List, [], ◌∷◌, ◌++◌, Option, arith, ap, sym, subst, ◌∙◌}
-use Rattle.ta_base.specs.Masks.{In}
-use Rattle.ta_automaton.specs.declared.task.Task.{Task}
-use Rattle.ta_moments.specs.Facts.{candidates}
+use Rattle.ta_moment_tree.proofs.Common.{ℕ, List, [], ◌∷◌, ◌++◌, Option, arith, ap, sym, subst, ◌∙◌, In, Task, candidates, candidate_of, IsMark, IsNode}
+use Rattle.ta_moment_tree.proofs.Common.{NodeMark, moment_maker, asking_of}
 use Rattle.ta_moments.specs.Moments.{known}
-use Rattle.ta_moments.specs.Searched.{candidate_of}
-use Rattle.ta_moment_tree.specs.Cuts.{IsMark}
-use Rattle.ta_moment_tree.specs.Nodes.{IsNode}
-use Rattle.ta_moment_tree.specs.declared.mark.NodeMark.{NodeMark}
-use Rattle.ta_moment_tree.specs.Makers.{moment_maker}
-use Rattle.ta_moment_tree.specs.Trees.{asking_of}
 use Rattle.ta_moment_tree.proofs.Coming.{comes_listed}
 use Rattle.ta_moment_tree.proofs.Parts.{marks_first, same_nothing}
 use Rattle.ta_moment_tree.proofs.moment_tree.MomentTree.begin.Goals as goal

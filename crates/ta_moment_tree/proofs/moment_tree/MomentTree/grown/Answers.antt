@@ -1,9 +1,5 @@
-use Rattle.std.proofs.Common.{◌+◌, [], reverse, take, arith, sym}
-use Rattle.std.proofs.lemmas.List.{append-nil}
+use Rattle.ta_moment_tree.proofs.Common.{◌+◌, [], reverse, take, arith, sym, append-nil, candidate_of, moment_maker, asking_of}
 use Rattle.ta_moment_tree.proofs.Cutting.{front_on}
-use Rattle.ta_moments.specs.Searched.{candidate_of}
-use Rattle.ta_moment_tree.specs.Makers.{moment_maker}
-use Rattle.ta_moment_tree.specs.Trees.{asking_of}
 use Rattle.ta_moment_tree.proofs.Coming.{comes_few, comes_first}
 use Rattle.ta_moment_tree.proofs.Parts.{mark_of, marks_more, node_next, node_unknowns}
 use Rattle.ta_moment_tree.proofs.moment_tree.MomentTree.grown.Goals as goal

@@ -1,7 +1,4 @@
-use Rattle.std.proofs.Common.{◌≤◌, length, reverse, take}
-use Rattle.ta_encode.specs.Inside.Lines.{IsBehind}
-use Rattle.ta_moments.specs.Searched.{candidate_of}
-use Rattle.ta_moment_tree.specs.Kept.{AreMarks, NodeIs}
+use Rattle.ta_moment_tree.proofs.Common.{◌≤◌, length, reverse, take, IsBehind, candidate_of, NodeIs, AreMarks}
 use Rattle.ta_moment_tree.proofs.moment_tree.MomentTree.grown.Given as goal
 
 abbrev pub invariant-loop-number : goal.invariant-loop-number

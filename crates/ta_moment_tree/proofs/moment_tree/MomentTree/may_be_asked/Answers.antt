@@ -1,7 +1,5 @@
-use Rattle.std.proofs.Common.{◌&&◌, reverse, ap, sym, ◌∙◌}
+use Rattle.ta_moment_tree.proofs.Common.{◌&&◌, reverse, ap, sym, ◌∙◌, exists_as, asking_of}
 use Rattle.ta_moments.specs.Moments.{known}
-use Rattle.ta_moments.specs.Searched.{exists_as}
-use Rattle.ta_moment_tree.specs.Trees.{asking_of}
 use Rattle.ta_moment_tree.proofs.Reversed.{open_reversed}
 use Rattle.ta_moment_tree.proofs.moment_tree.MomentTree.may_be_asked.Goals as goal
 

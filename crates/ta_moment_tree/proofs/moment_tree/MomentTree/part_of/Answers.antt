@@ -1,10 +1,6 @@
-use Rattle.std.proofs.Common.{◌≡◌, ℕ, ◌<◌, List, Option, Some, length, reverse, slice_get, take, arith, sym, subst, refl}
-use Rattle.std.proofs.lemmas.Option.{slice_get_read}
-use Rattle.ta_moments.specs.declared.fact.Fact.{Fact}
-use Rattle.ta_moments.specs.Searched.{candidate_of}
-use Rattle.ta_moment_tree.specs.declared.encoding.MomentEncoding.{MomentEncoding}
-use Rattle.ta_moment_tree.specs.declared.mark.NodeMark.{NodeMark}
-use Rattle.ta_moment_tree.specs.Kept.{AreMarks, KeepsIfSome, NodeIs}
+use Rattle.ta_moment_tree.proofs.Common.{◌≡◌, ℕ, ◌<◌, List, Option, Some, length, reverse, slice_get, take, arith, sym, subst, refl, slice_get_read, Fact}
+use Rattle.ta_moment_tree.proofs.Common.{candidate_of, MomentEncoding, NodeMark, NodeIs, AreMarks}
+use Rattle.ta_moment_tree.specs.Kept.{KeepsIfSome}
 use Rattle.ta_moment_tree.proofs.Parts.{mark_within, marks_cut, node_cut, same_cut}
 use Rattle.ta_moment_tree.proofs.moment_tree.MomentTree.part_of.Goals as goal
 

@@ -1,15 +1,10 @@
-use Rattle.std.proofs.Common.{ℕ, List, length, reverse, arith, sym, subst, refl, ◌∙◌}
-use Rattle.ta_encode.specs.Marks.{SameRows}
-use Rattle.ta_linear.specs.declared.row.Row.{Row}
-use Rattle.ta_moments.specs.declared.fact.Fact.{Fact}
-use Rattle.ta_moments.specs.Searched.{candidate_of}
-use Rattle.ta_moment_tree.specs.Kept.{AreMarks, IsPart, NodeIs}
-use Rattle.ta_moment_tree.specs.Makers.{moment_maker}
-use Rattle.ta_moment_tree.specs.Trees.{asking_of}
+use Rattle.ta_moment_tree.proofs.Common.{ℕ, List, length, reverse, arith, sym, subst, refl, ◌∙◌, SameRows, Row, Fact, candidate_of, NodeIs, moment_maker}
+use Rattle.ta_moment_tree.proofs.Common.{asking_of, AreMarks}
+use Rattle.ta_moment_tree.specs.Kept.{IsPart}
 use Rattle.ta_moment_tree.proofs.Coming.{comes_few}
 use Rattle.ta_moment_tree.proofs.Parts.{node_unknowns, node_whole, same_more, system_at}
-use Rattle.ta_moment_tree.proofs.moment_tree.MomentTree.written.Goals as goal
 use Rattle.ta_moment_tree.proofs.moment_tree.MomentTree.written.Goals.{In_ok-node}
+use Rattle.ta_moment_tree.proofs.moment_tree.MomentTree.written.Goals as goal
 
 -- the node with all facts, and what stays of the rows before
 whole : (c : In_ok-node) → IsPart c.args.self.now.task.automaton.now c.args.self.now.task.pattern.now c.args.self.now.silent.now c.args.start c.args.facts.now

@@ -1,5 +1,4 @@
-use Rattle.ta_moment_tree.proofs.Common.{ℕ, ◌∙◌, filter, slice_get, ap}
-use Rattle.ta_moments.specs.Facts.{has_guard}
+use Rattle.ta_moment_tree.proofs.Common.{ℕ, ◌∙◌, filter, slice_get, ap, has_guard}
 use Rattle.ta_moment_tree.proofs.plan.Plan.needing.Goals as goal
 
 pub returns : goal.returns

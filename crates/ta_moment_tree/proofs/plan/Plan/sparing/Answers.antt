@@ -1,5 +1,4 @@
-use Rattle.ta_moment_tree.proofs.Common.{ℕ, ◌∙◌, filter, not, slice_get, ap}
-use Rattle.ta_moments.specs.Facts.{has_guard}
+use Rattle.ta_moment_tree.proofs.Common.{ℕ, ◌∙◌, filter, not, slice_get, ap, has_guard}
 use Rattle.ta_moment_tree.proofs.plan.Plan.sparing.Goals as goal
 
 pub returns : goal.returns

@@ -1,12 +1,6 @@
-use Rattle.std.proofs.Common.{List, cond, Option, Some, None, slice_get, reverse, ap, sym, ◌∙◌}
-use Rattle.ta_encode.specs.Search.{all_or_none}
-use Rattle.ta_encode.specs.Asking.{ask_node}
-use Rattle.ta_moments.specs.declared.fact.Fact.{Fact}
+use Rattle.ta_moment_tree.proofs.Common.{List, cond, Option, Some, None, slice_get, reverse, ap, sym, ◌∙◌, all_or_none, ask_node, Fact, answers, candidate_of}
+use Rattle.ta_moment_tree.proofs.Common.{moment_maker, asking_of, search_of_moments}
 use Rattle.ta_moments.specs.Moments.{known}
-use Rattle.ta_moments.specs.Refutes.{answers}
-use Rattle.ta_moments.specs.Searched.{candidate_of}
-use Rattle.ta_moment_tree.specs.Makers.{moment_maker}
-use Rattle.ta_moment_tree.specs.Trees.{asking_of, search_of_moments}
 use Rattle.ta_moment_tree.proofs.Asked.{answer_is, asked_if, few_answers}
 use Rattle.ta_moment_tree.proofs.Counting.{fewer_next}
 use Rattle.ta_moment_tree.proofs.tree.MomentTreeTree.answer.Goals as goal

@@ -1,8 +1,5 @@
-use Rattle.std.proofs.lemmas.Result.{IfOk-weaker}
+use Rattle.ta_moment_tree.proofs.Common.{IfOk-weaker, IsSmall, moment_maker, asking_of}
 use Rattle.ta_encode.specs.Cursors.{node_at}
-use Rattle.ta_encode.specs.TreeCalls.{IsSmall}
-use Rattle.ta_moment_tree.specs.Makers.{moment_maker}
-use Rattle.ta_moment_tree.specs.Trees.{asking_of}
 use Rattle.ta_moment_tree.proofs.Coming.{comes_small}
 use Rattle.ta_moment_tree.proofs.tree.MomentTreeTree.encode.Goals as goal
 

@@ -1,10 +1,5 @@
-use Rattle.std.proofs.Common.{reverse, sym, ◌∙◌}
-use Rattle.ta_encode.specs.Asking.{ask_node}
+use Rattle.ta_moment_tree.proofs.Common.{reverse, sym, ◌∙◌, ask_node, answers, candidate_of, moment_maker, asking_of, search_of_moments}
 use Rattle.ta_moments.specs.Moments.{known}
-use Rattle.ta_moments.specs.Refutes.{answers}
-use Rattle.ta_moments.specs.Searched.{candidate_of}
-use Rattle.ta_moment_tree.specs.Makers.{moment_maker}
-use Rattle.ta_moment_tree.specs.Trees.{asking_of, search_of_moments}
 use Rattle.ta_moment_tree.proofs.Asked.{asked_if, tells}
 use Rattle.ta_moment_tree.proofs.tree.MomentTreeTree.may_ask.Goals as goal
 

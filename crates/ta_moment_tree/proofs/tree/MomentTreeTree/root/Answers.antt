@@ -1,5 +1,4 @@
-use Rattle.ta_moment_tree.specs.Makers.{moment_maker}
-use Rattle.ta_moment_tree.specs.Trees.{asking_of}
+use Rattle.ta_moment_tree.proofs.Common.{moment_maker, asking_of}
 use Rattle.ta_moment_tree.proofs.Roots.{root_of}
 use Rattle.ta_moment_tree.proofs.tree.MomentTreeTree.root.Goals as goal
 

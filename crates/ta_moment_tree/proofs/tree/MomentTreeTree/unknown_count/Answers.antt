@@ -1,7 +1,4 @@
-use Rattle.std.proofs.Common.{reverse, arith}
-use Rattle.ta_moments.specs.Searched.{candidate_of}
-use Rattle.ta_moment_tree.specs.Makers.{moment_maker}
-use Rattle.ta_moment_tree.specs.Trees.{asking_of}
+use Rattle.ta_moment_tree.proofs.Common.{reverse, arith, candidate_of, moment_maker, asking_of}
 use Rattle.ta_moment_tree.proofs.Coming.{comes_few}
 use Rattle.ta_moment_tree.proofs.Counting.{unknowns_same}
 use Rattle.ta_moment_tree.proofs.tree.MomentTreeTree.unknown_count.Goals as goal

@@ -1,5 +1,5 @@
-use Rattle.std.proofs.Common.{List, ℕ, ◌≡◌, ◌++◌, ◌∷◌, [], ◌∙◌, ap, codes, string_bytes}
-use Rattle.ta_report.specs.Show.{condition_text, mask_text}
+use Rattle.ta_report.proofs.Common.{List, ℕ, ◌≡◌, ◌++◌, ◌∷◌, [], ◌∙◌, ap, codes, condition_text, mask_text}
+use Rattle.std.proofs.Common.{string_bytes}
 use Rattle.ta_report.proofs.Showing.{behind}
 use Rattle.ta_report.proofs.writing.EventShown.show.Goals as goal
 

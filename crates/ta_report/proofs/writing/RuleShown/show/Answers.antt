@@ -1,5 +1,6 @@
-use Rattle.std.proofs.Common.{List, ℕ, ◌≡◌, ◌++◌, ◌∷◌, [], ◌∙◌, ap, codes, string_bytes}
-use Rattle.ta_report.specs.Show.{listed, mask_text, update_text, way_text}
+use Rattle.ta_report.proofs.Common.{List, ℕ, ◌≡◌, ◌++◌, ◌∷◌, [], ◌∙◌, ap, codes, mask_text, update_text}
+use Rattle.std.proofs.Common.{string_bytes}
+use Rattle.ta_report.specs.Show.{listed, way_text}
 use Rattle.ta_report.proofs.Showing.{behind}
 use Rattle.ta_report.proofs.writing.RuleShown.show.Goals as goal
 

@@ -1,7 +1,5 @@
+use Rattle.ta_rest.proofs.Common.{ask_node, Ask, search_of_claim}
 use Rattle.ta_rest.proofs.ClaimCommon.{reverse, subst, sym, AnswerIs}
-use Rattle.ta_encode.specs.Asking.{ask_node}
-use Rattle.ta_encode.specs.declared.ask.Ask.{Ask}
-use Rattle.ta_rest.specs.Trees.{search_of_claim}
 use Rattle.ta_rest.proofs.claim_words.ClaimTreeTree.answer.Goals as goal
 
 pub returns-in-Extend : goal.returns-in-Extend

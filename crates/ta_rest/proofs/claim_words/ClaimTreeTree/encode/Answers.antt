@@ -1,5 +1,5 @@
+use Rattle.ta_rest.proofs.Common.{BoundsWithin}
 use Rattle.ta_rest.proofs.ClaimCommon.{ℕ, reverse, subst, node_at}
-use Rattle.ta_encode.specs.Lines.{BoundsWithin}
 use Rattle.ta_rest.proofs.ClaimWords.{claim_legal, claim_small, claim_unknowns}
 use Rattle.ta_rest.proofs.claim_words.ClaimTreeTree.encode.Goals as goal
 

@@ -1,7 +1,5 @@
+use Rattle.ta_rest.proofs.Common.{ask_node, Ask, search_of_claim}
 use Rattle.ta_rest.proofs.ClaimCommon.{not, reverse, subst, sym, TellsMayAsk}
-use Rattle.ta_encode.specs.Asking.{ask_node}
-use Rattle.ta_encode.specs.declared.ask.Ask.{Ask}
-use Rattle.ta_rest.specs.Trees.{search_of_claim}
 use Rattle.ta_rest.proofs.ClaimWords.{claim_extends}
 use Rattle.ta_rest.proofs.claim_words.ClaimTreeTree.may_ask.Goals as goal
 

@@ -1,5 +1,5 @@
+use Rattle.ta_revised.proofs.Common.{narrow_view}
 use Rattle.std.specs.Prelude.{MatchOption}
-use Rattle.ta_revised.specs.Narrow.{narrow_view}
 use Rattle.ta_revised.proofs.EnterSoFar.{EntersBelow, NoneEntersBelow}
 use Rattle.ta_revised.proofs.revised.RevisedDictionary.entering.Given as goal
 

@@ -1,14 +1,8 @@
-use Rattle.std.proofs.Common.{◌≡◌, ◌+◌, ◌-◌, ◌++◌, ◌∷◌, [], suc, ℕ, List, length, arith, ap, sym, subst, ◌∙◌}
-use Rattle.std.specs.List.{range_with_len}
-use Rattle.std.proofs.lemmas.List.FromFn.{length-range_with_len}
-use Rattle.ta_base.proofs.Lists.{range_more}
-use Rattle.ta_dense.proofs.SlackRows.{tableau_same}
-use Rattle.ta_revised.specs.Revised.{unit_rows}
-use Rattle.ta_revised.specs.UnknownRows.{AreUnknownRows, ListsBasic, unknown_rows}
-use Rattle.ta_revised.specs.declared.unknown_rows.UnknownRow.{UnknownRow}
+use Rattle.ta_revised.proofs.Common.{◌≡◌, ◌+◌, ◌-◌, ◌++◌, ◌∷◌, [], suc, ℕ, List, length, arith, ap, sym, subst, ◌∙◌, range_with_len, length-range_with_len}
+use Rattle.ta_revised.proofs.Common.{range_more, tableau_same, unit_rows, AreUnknownRows, ListsBasic, unknown_rows, UnknownRow}
 use Rattle.ta_revised.proofs.UnknownRowSteps.{length_pushed}
-use Rattle.ta_revised.proofs.revised.RevisedDictionary.first.Goals as goal
 use Rattle.ta_revised.proofs.revised.RevisedDictionary.first.Goals.{In_ok-push_units}
+use Rattle.ta_revised.proofs.revised.RevisedDictionary.first.Goals as goal
 
 pub loop-unknown-preserved : goal.loop-unknown-preserved
 loop-unknown-preserved c =

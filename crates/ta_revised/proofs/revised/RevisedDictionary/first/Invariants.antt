@@ -1,5 +1,4 @@
-use Rattle.std.proofs.Common.{◌≡◌}
-use Rattle.std.specs.List.{range_with_len}
+use Rattle.ta_revised.proofs.Common.{◌≡◌, range_with_len}
 use Rattle.ta_revised.proofs.revised.RevisedDictionary.first.Given as goal
 
 abbrev pub invariant-loop-unknown : goal.invariant-loop-unknown

@@ -1,17 +1,9 @@
-use Rattle.std.proofs.Common.{◌≡◌, ◌≤◌, ◌-◌, ◌++◌, ℕ, List, map, length, arith, ap, sym, subst, ◌∙◌}
-use Rattle.std.proofs.lemmas.List.{length-map}
-use Rattle.ta_dense.specs.Tableau.{TableauRow, Tableau}
-use Rattle.ta_dense.specs.Inside.Padded.{zero_filled}
-use Rattle.ta_dense.specs.Extending.{raised}
-use Rattle.std.specs.List.{range_with_len}
-use Rattle.ta_dense.proofs.ExtendFacts.{names_long}
-use Rattle.ta_revised.specs.Revised.{grown}
-use Rattle.ta_revised.specs.UnknownRows.{AreUnknownRows, ListsBasic, unknown_rows, unknown_row}
-use Rattle.ta_revised.specs.declared.unknown_rows.UnknownRow.{UnknownRow}
+use Rattle.ta_revised.proofs.Common.{◌≡◌, ◌≤◌, ◌-◌, ◌++◌, ℕ, List, map, length, arith, ap, sym, subst, ◌∙◌, length-map, TableauRow, Tableau, zero_filled}
+use Rattle.ta_revised.proofs.Common.{raised, range_with_len, names_long, grown, AreUnknownRows, ListsBasic, unknown_rows, unknown_row, UnknownRow}
 use Rattle.ta_revised.proofs.GrownRows.{grown_is}
 use Rattle.ta_revised.proofs.UnknownRowSteps.{length_pushed}
-use Rattle.ta_revised.proofs.revised.RevisedDictionary.grown.Goals as goal
 use Rattle.ta_revised.proofs.revised.RevisedDictionary.grown.Goals.{In_ok-push_units}
+use Rattle.ta_revised.proofs.revised.RevisedDictionary.grown.Goals as goal
 
 -- how many columns there were
 few : (c : In_ok-push_units) → c.len-old.result ≤ c.args.unknowns

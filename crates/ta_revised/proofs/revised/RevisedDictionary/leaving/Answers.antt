@@ -1,7 +1,4 @@
-use Rattle.std.proofs.Common.{◌≡◌, ◌∙◌, List, length, rules, subst, sym}
-use Rattle.std.specs.Vec.{vec_len}
-use Rattle.ta_dense.specs.Tableau.{TableauRow}
-use Rattle.ta_revised.specs.Scale.{AreValues, IsScale}
+use Rattle.ta_revised.proofs.Common.{◌≡◌, ◌∙◌, List, length, rules, subst, sym, vec_len, TableauRow, AreValues, IsScale}
 use Rattle.ta_revised.proofs.RevisedFacts.{least_is, rows_are}
 use Rattle.ta_revised.proofs.revised.RevisedDictionary.leaving.Goals as goal
 

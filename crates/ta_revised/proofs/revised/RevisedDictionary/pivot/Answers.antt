@@ -1,8 +1,4 @@
-use Rattle.std.proofs.Common.{◌≡◌, ◌∙◌, ap, sym, ℕ, length, set, arith}
-use Rattle.std.proofs.lemmas.List.{length-set}
-use Rattle.ta_dense.specs.Tableau.{Tableau}
-use Rattle.ta_revised.specs.Narrow.{narrow_view}
-use Rattle.ta_revised.specs.UnknownRows.{unknown_rows}
+use Rattle.ta_revised.proofs.Common.{◌≡◌, ◌∙◌, ap, sym, ℕ, length, set, arith, length-set, Tableau, narrow_view, unknown_rows}
 use Rattle.ta_revised.proofs.PivotedRows.{after_pivot}
 use Rattle.ta_revised.proofs.revised.RevisedDictionary.pivot.Goals as goal
 

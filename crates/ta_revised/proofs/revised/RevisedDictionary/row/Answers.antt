@@ -1,12 +1,6 @@
-use Rattle.std.proofs.Common.{◌≡◌, rules, ◌∙◌, ap, sym, subst, length, List}
+use Rattle.ta_revised.proofs.Common.{◌≡◌, rules, ◌∙◌, ap, sym, subst, length, List, TableauRow, narrow_view, IsScale, unknown_rows, length-map, unknown_row}
 use Rattle.std.proofs.lemmas.Result.{IfOk-weaker}
 use Rattle.std.proofs.lemmas.Option.{IfSome_then}
-use Rattle.ta_dense.specs.Tableau.{TableauRow}
-use Rattle.ta_revised.specs.Narrow.{narrow_view}
-use Rattle.ta_revised.specs.Scale.{IsScale}
-use Rattle.ta_revised.specs.UnknownRows.{unknown_rows}
-use Rattle.std.proofs.lemmas.List.{length-map}
-use Rattle.ta_revised.specs.UnknownRows.{unknown_row}
 use Rattle.ta_revised.proofs.SlackFacts.{viewed, viewed_columns, slack_terms, row_of_slack}
 use Rattle.ta_revised.proofs.revised.RevisedDictionary.row.Goals as goal
 

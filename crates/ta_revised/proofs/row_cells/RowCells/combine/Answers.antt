@@ -1,9 +1,5 @@
-use Rattle.ta_revised.proofs.Common.{◌≡◌, ◌∙◌, ap, sym, ℕ, ℤ, List, pos, get_or, length, combine, arith, rules, to_z-of_z}
-use Rattle.ta_revised.proofs.Common.{with_items_is}
-use Rattle.std.specs.Arc.{arc_value}
-use Rattle.std.specs.Vec.{vec_len}
-use Rattle.ta_revised.specs.RowCells.{zeros_behind}
-use Rattle.ta_dense.proofs.PivotLaws.{length-combine, get_or-combine}
+use Rattle.ta_revised.proofs.Common.{◌≡◌, ◌∙◌, ap, sym, ℕ, ℤ, List, pos, get_or, length, combine, arith, rules, to_z-of_z, with_items_is, arc_value, vec_len}
+use Rattle.ta_revised.proofs.Common.{zeros_behind, length-combine, get_or-combine}
 use Rattle.ta_revised.proofs.RowCellFacts.{cell_behind, is_behind, own_cell, stored_of}
 use Rattle.ta_revised.proofs.row_cells.RowCells.combine.Goals as goal
 

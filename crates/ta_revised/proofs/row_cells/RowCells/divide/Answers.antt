@@ -1,7 +1,5 @@
-use Rattle.ta_revised.proofs.Common.{◌≡◌, ◌∙◌, List, ℤ, int_div, map, length, ap, arith, rules, with_items_is, to_z-of_z, length-map}
-use Rattle.std.specs.Arc.{arc_value}
-use Rattle.std.specs.Vec.{with_items}
-use Rattle.ta_revised.specs.RowCells.{zeros_behind}
+use Rattle.ta_revised.proofs.Common.{◌≡◌, ◌∙◌, List, ℤ, int_div, map, length, ap, arith, rules, with_items_is, to_z-of_z, length-map, arc_value, with_items}
+use Rattle.ta_revised.proofs.Common.{zeros_behind}
 use Rattle.ta_revised.proofs.RowCellFacts.{map_behind, zero_div, own_behind, own_short}
 use Rattle.ta_revised.proofs.row_cells.RowCells.divide.Goals as goal
 

@@ -1,5 +1,4 @@
-use Rattle.ta_revised.proofs.Common.{◌≡◌, ◌∙◌, ap, sym, gcd_with}
-use Rattle.std.specs.Arc.{arc_value}
+use Rattle.ta_revised.proofs.Common.{◌≡◌, ◌∙◌, ap, sym, gcd_with, arc_value}
 use Rattle.ta_revised.proofs.RowCellFacts.{gcd_behind}
 use Rattle.ta_revised.proofs.row_cells.RowCells.divisor.Goals as goal
 

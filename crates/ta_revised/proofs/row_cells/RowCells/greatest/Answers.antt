@@ -1,5 +1,4 @@
-use Rattle.ta_revised.proofs.Common.{◌≡◌, ◌∙◌, List, ℤ, ap, sym, subst, AreBounded}
-use Rattle.std.specs.Arc.{arc_value}
+use Rattle.ta_revised.proofs.Common.{◌≡◌, ◌∙◌, List, ℤ, ap, sym, subst, AreBounded, arc_value}
 use Rattle.ta_revised.proofs.RowCellFacts.{bounded_stored}
 use Rattle.ta_revised.proofs.row_cells.RowCells.greatest.Goals as goal
 

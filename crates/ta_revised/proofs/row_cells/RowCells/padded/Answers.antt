@@ -1,6 +1,4 @@
-use Rattle.ta_revised.proofs.Common.{◌≡◌, ◌≤◌, ◌∙◌, List, ℤ, length, ap, sym, arith}
-use Rattle.ta_revised.specs.RowCells.{zeros_behind}
-use Rattle.std.specs.Arc.{arc_value}
+use Rattle.ta_revised.proofs.Common.{◌≡◌, ◌≤◌, ◌∙◌, List, ℤ, length, ap, sym, arith, zeros_behind, arc_value}
 use Rattle.ta_revised.proofs.RowCellFacts.{length_behind, own_behind}
 use Rattle.ta_revised.proofs.row_cells.RowCells.padded.Goals as goal
 

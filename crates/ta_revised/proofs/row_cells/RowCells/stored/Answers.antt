@@ -1,7 +1,4 @@
-use Rattle.ta_revised.proofs.Common.{◌≡◌, ◌∙◌, List, ℤ, ap, sym, get_or, pos, length, arith, rules}
-use Rattle.std.proofs.lemmas.List.{get_or_past}
-use Rattle.std.specs.Arc.{arc_value}
-use Rattle.std.specs.Vec.{vec_len}
+use Rattle.ta_revised.proofs.Common.{◌≡◌, ◌∙◌, List, ℤ, ap, sym, get_or, pos, length, arith, rules, get_or_past, arc_value, vec_len}
 use Rattle.ta_revised.proofs.RowCellFacts.{cell_behind}
 use Rattle.ta_revised.proofs.row_cells.RowCells.stored.Goals as goal
 

@@ -1,6 +1,4 @@
-use Rattle.ta_revised.proofs.Common.{◌≡◌, ◌≤◌, ◌+◌, ◌∙◌, ap, sym, ℤ, List, length, set, arith, to_z-of_z}
-use Rattle.std.specs.Arc.{arc_value}
-use Rattle.ta_revised.specs.RowCells.{zeros_behind}
+use Rattle.ta_revised.proofs.Common.{◌≡◌, ◌≤◌, ◌+◌, ◌∙◌, ap, sym, ℤ, List, length, set, arith, to_z-of_z, arc_value, zeros_behind}
 use Rattle.ta_revised.proofs.RowCellFacts.{length_behind, long_behind, own_behind, set_behind}
 use Rattle.ta_revised.proofs.row_cells.RowCells.write.Goals as goal
 

@@ -1,5 +1,4 @@
-use Rattle.ta_revised.proofs.Common.{◌∙◌, ap, arith}
-use Rattle.ta_revised.specs.RowCells.{zeros_behind}
+use Rattle.ta_revised.proofs.Common.{◌∙◌, ap, arith, zeros_behind}
 use Rattle.ta_revised.proofs.RowCellFacts.{zeros_alone}
 use Rattle.ta_revised.proofs.row_cells.RowCells.zeros.Goals as goal
 

@@ -1,7 +1,5 @@
-use Rattle.std.proofs.Common.{◌≡◌, ◌<◌, ◌∙◌, ap, arith, length, rules, take}
-use Rattle.std.specs.Vec.{vec_len}
+use Rattle.ta_revised.proofs.Common.{◌≡◌, ◌<◌, ◌∙◌, ap, arith, length, rules, take, vec_len, ShortRow}
 use Rattle.ta_revised.proofs.ShortFacts.{short_cut}
-use Rattle.ta_revised.specs.declared.short_rows.ShortRow.{ShortRow}
 use Rattle.ta_revised.proofs.short_rows.ShortRows.cut.Goals as goal
 
 pub returns-then-count-len : goal.returns-then-count-len

@@ -1,5 +1,4 @@
-use Rattle.std.specs.Prelude.{◌≡◌, length, take}
-use Rattle.ta_revised.specs.ShortRows.{AreShort}
+use Rattle.ta_revised.proofs.Common.{◌≡◌, length, take, AreShort}
 use Rattle.ta_revised.proofs.short_rows.ShortRows.extend.Given as goal
 
 abbrev pub invariant-loop-at : goal.invariant-loop-at

@@ -1,9 +1,5 @@
-use Rattle.std.proofs.Common.{ℕ, ◌≡◌, ◌<ℤ◌, ◌≤ℤ◌, FitsSigned, IsSomeAnd, arith, below_more, length, pos, rules, slice_get}
-use Rattle.std.proofs.lemmas.Int.{ints, to_z-of_z}
-use Rattle.std.specs.Int.{w32, w64}
-use Rattle.std.specs.Vec.{vec_len}
-use Rattle.ta_linear.specs.declared.row.Row.{Row}
-use Rattle.ta_revised.specs.Negative.{row_value}
+use Rattle.ta_revised.proofs.Common.{ℕ, ◌≡◌, ◌<ℤ◌, ◌≤ℤ◌, FitsSigned, IsSomeAnd, arith, below_more, length, pos, rules, slice_get, ints, to_z-of_z, w32, w64}
+use Rattle.ta_revised.proofs.Common.{vec_len, Row, row_value}
 use Rattle.ta_revised.proofs.ShortFacts.{holds_at, modest_at, normal_at, short_in, value_at}
 use Rattle.ta_revised.proofs.short_rows.ShortRows.first_negative.Goals as goal
 

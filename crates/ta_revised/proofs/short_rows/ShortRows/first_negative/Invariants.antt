@@ -1,4 +1,4 @@
-use Rattle.ta_revised.specs.Negative.{RowsHold}
+use Rattle.ta_revised.proofs.Common.{RowsHold}
 use Rattle.ta_revised.proofs.short_rows.ShortRows.first_negative.Given as goal
 
 abbrev pub invariant-loop-at : goal.invariant-loop-at

@@ -1,5 +1,4 @@
-use Rattle.std.proofs.Common.{List, ℕ, ℤ, ◌≡◌, ◌++◌, ◌∙◌, ap, length, refl, rules}
-use Rattle.std.specs.Vec.{vec_len}
+use Rattle.ta_revised.proofs.Common.{List, ℕ, ℤ, ◌≡◌, ◌++◌, ◌∙◌, ap, length, refl, rules, vec_len}
 use Rattle.ta_revised.proofs.ShortFacts.{short_constant, short_further, short_pushed}
 use Rattle.ta_revised.proofs.short_rows.ShortRows.push.Goals as goal
 

@@ -1,5 +1,5 @@
-use Rattle.ta_shelf.proofs.CallLemmas.{bytes_put-then}
 use Rattle.ta_shelf.proofs.Common.{bytes_put}
+use Rattle.ta_shelf.proofs.CallLemmas.{bytes_put-then}
 use Rattle.ta_shelf.proofs.Handed.{added_to}
 use Rattle.ta_shelf.proofs.disk_stage.Making.add.Goals as goal
 

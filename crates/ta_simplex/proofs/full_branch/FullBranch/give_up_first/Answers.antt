@@ -1,4 +1,4 @@
-use Rattle.std.proofs.Common.{map, length}
+use Rattle.ta_simplex.proofs.Common.{map, length}
 use Rattle.ta_simplex.proofs.FullBranchLemmas.{standing_removed}
 use Rattle.ta_simplex.proofs.full_branch.FullBranch.give_up_first.Goals as goal
 

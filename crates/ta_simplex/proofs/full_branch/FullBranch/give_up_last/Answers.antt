@@ -1,4 +1,4 @@
-use Rattle.std.proofs.Common.{map, length, reverse}
+use Rattle.ta_simplex.proofs.Common.{map, length, reverse}
 use Rattle.ta_simplex.proofs.FullBranchLemmas.{standing_pop, standing_shared}
 use Rattle.ta_simplex.proofs.full_branch.FullBranch.give_up_last.Goals as goal
 

@@ -1,4 +1,4 @@
-use Rattle.std.proofs.Common.{length, reverse}
+use Rattle.ta_simplex.proofs.Common.{length, reverse}
 use Rattle.ta_simplex.proofs.FullBranchLemmas.{standing_on}
 use Rattle.ta_simplex.proofs.full_branch.FullBranch.solve.Goals as goal
 

@@ -1,13 +1,7 @@
-use Rattle.std.proofs.Common.{ℕ, ◌<◌, arith, List, length, sym, ◌∙◌, subst}
+use Rattle.ta_simplex.proofs.Common.{ℕ, ◌<◌, arith, List, length, sym, ◌∙◌, subst, Row, AreModestRows, IsModestRow, Tableau, FirstHold, grown, IsUnderWay}
+use Rattle.ta_simplex.proofs.Common.{revised_laws}
 use Rattle.std.proofs.lemmas.List.Elements.{All-drop}
-use Rattle.ta_linear.specs.declared.row.Row.{Row}
-use Rattle.ta_revised.specs.Modest.{AreModestRows, IsModestRow}
-use Rattle.ta_dense.specs.Tableau.{Tableau}
 use Rattle.ta_revised.proofs.GrownHolds.{grown_holds}
-use Rattle.ta_revised.specs.Negative.{FirstHold}
-use Rattle.ta_revised.specs.Revised.{grown}
-use Rattle.ta_simplex.specs.RevisedRuns.{IsUnderWay}
-use Rattle.ta_revised.proofs.RevisedLaws.{revised_laws}
 use Rattle.ta_simplex.proofs.RevisedGrowth.{under_way_first, may_grow, under_way_grown}
 use Rattle.ta_simplex.proofs.RevisedBranchLemmas.{last_revised}
 use Rattle.ta_simplex.proofs.revised_branch.RevisedBranch.beginning.Goals as goal

@@ -1,4 +1,4 @@
-use Rattle.std.proofs.Common.{length}
+use Rattle.ta_simplex.proofs.Common.{length}
 use Rattle.ta_simplex.proofs.RevisedBranchLemmas.{revised_removed}
 use Rattle.ta_simplex.proofs.revised_branch.RevisedBranch.give_up_first.Goals as goal
 

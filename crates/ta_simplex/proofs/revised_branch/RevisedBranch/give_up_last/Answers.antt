@@ -1,4 +1,4 @@
-use Rattle.std.proofs.Common.{length, reverse}
+use Rattle.ta_simplex.proofs.Common.{length, reverse}
 use Rattle.ta_simplex.proofs.RevisedBranchLemmas.{revised_pop, revised_shared, short_shared}
 use Rattle.ta_simplex.proofs.revised_branch.RevisedBranch.give_up_last.Goals as goal
 

@@ -1,4 +1,4 @@
-use Rattle.std.proofs.Common.{refl}
+use Rattle.ta_simplex.proofs.Common.{refl}
 use Rattle.ta_simplex.proofs.RevisedBranchLemmas.{revised_push}
 use Rattle.ta_simplex.proofs.revised_branch.RevisedBranch.stand.Goals as goal
 

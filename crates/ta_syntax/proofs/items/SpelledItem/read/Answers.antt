@@ -1,4 +1,4 @@
-use Rattle.std.proofs.result.Match.{err_is}
+use Rattle.ta_syntax.proofs.Common.{err_is}
 use Rattle.ta_syntax.proofs.Steps.{take_name, name_stops}
 use Rattle.ta_syntax.proofs.items.SpelledItem.read.Goals as goal
 

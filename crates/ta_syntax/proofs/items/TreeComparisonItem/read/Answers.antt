@@ -1,8 +1,6 @@
-use Rattle.ta_syntax.proofs.Common.{err_is}
-use Rattle.ta_syntax.specs.FileGrammar.{a_sum, comparison, relations}
-use Rattle.ta_syntax.specs.Productions.{both, one}
-use Rattle.ta_syntax.specs.declared.fault.FileFault.TheVariants as fault
+use Rattle.ta_syntax.proofs.Common.{err_is, a_sum, comparison, relations, both, one}
 use Rattle.ta_syntax.proofs.Steps.{then, past, also_at, take_relation, relation_stops, halts_by, halts_in, stops_first}
+use Rattle.ta_syntax.specs.declared.fault.FileFault.TheVariants as fault
 use Rattle.ta_syntax.proofs.items.TreeComparisonItem.read.Goals as goal
 
 pub returns-in_err-left : goal.returns-in_err-left

@@ -1,8 +1,6 @@
-use Rattle.ta_syntax.proofs.Common.{err_is}
-use Rattle.ta_syntax.specs.FileGrammar.{a_name, maybe}
-use Rattle.ta_syntax.specs.Productions.{nothing}
-use Rattle.ta_syntax.specs.declared.tokens.Mark.TheVariants as mark
+use Rattle.ta_syntax.proofs.Common.{err_is, a_name, maybe, nothing}
 use Rattle.ta_syntax.proofs.Steps.{then, past, take_name, name_stops, stops_first, maybe_taken, maybe_skipped}
+use Rattle.ta_syntax.specs.declared.tokens.Mark.TheVariants as mark
 use Rattle.ta_syntax.proofs.items.TreeLocationItem.read.Goals as goal
 
 pub returns-in_err-name : goal.returns-in_err-name

@@ -1,9 +1,7 @@
-use Rattle.ta_syntax.proofs.Common.{err_is}
-use Rattle.ta_syntax.specs.FileGrammar.{a_mark, a_name, a_number, update}
-use Rattle.ta_syntax.specs.Productions.{both}
+use Rattle.ta_syntax.proofs.Common.{err_is, a_mark, a_name, a_number, update, both}
+use Rattle.ta_syntax.proofs.Steps.{then, past, take_name, take_mark, take_number, name_stops, mark_stops, number_stops, halts_by, halts_in, stops_first}
 use Rattle.ta_syntax.specs.declared.tokens.Mark.TheVariants as mark
 use Rattle.ta_syntax.specs.declared.fault.FileFault.TheVariants as fault
-use Rattle.ta_syntax.proofs.Steps.{then, past, take_name, take_mark, take_number, name_stops, mark_stops, number_stops, halts_by, halts_in, stops_first}
 use Rattle.ta_syntax.proofs.items.TreeUpdateItem.read.Goals as goal
 
 pub returns-in_err-name : goal.returns-in_err-name

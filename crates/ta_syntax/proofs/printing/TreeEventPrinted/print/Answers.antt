@@ -1,8 +1,8 @@
 use Rattle.ta_syntax.proofs.Common.{[], ◌∷◌, ◌++◌, map, string_bytes, if_ok_then, listed, led, name_kinds, comparison_kinds, plain_name, plain_comparison}
 use Rattle.ta_syntax.proofs.Common.{Prints}
+use Rattle.ta_syntax.proofs.PrintSteps.{prints_then, listed_of, led_of}
 use Rattle.ta_syntax.specs.declared.tokens.Kind.TheVariants as kind
 use Rattle.ta_syntax.specs.declared.tokens.Mark.TheVariants as mark
-use Rattle.ta_syntax.proofs.PrintSteps.{prints_then, listed_of, led_of}
 use Rattle.ta_syntax.proofs.printing.TreeEventPrinted.print.Goals as goal
 
 pub returns : goal.returns

@@ -1,8 +1,8 @@
 use Rattle.ta_syntax.proofs.Common.{[], ◌∷◌, ◌++◌, map, string_bytes, if_ok_then, ended, each, name_kinds, comparison_kinds, event_kinds, plain_name}
 use Rattle.ta_syntax.proofs.Common.{plain_comparison, plain_event, Prints}
+use Rattle.ta_syntax.proofs.PrintSteps.{prints_then, ended_of, each_of}
 use Rattle.ta_syntax.specs.declared.tokens.Kind.TheVariants as kind
 use Rattle.ta_syntax.specs.declared.tokens.Mark.TheVariants as mark
-use Rattle.ta_syntax.proofs.PrintSteps.{prints_then, ended_of, each_of}
 use Rattle.ta_syntax.proofs.printing.TreePatternPrinted.print.Goals as goal
 
 pub returns : goal.returns

@@ -1,7 +1,7 @@
 use Rattle.ta_syntax.proofs.Common.{[], ◌∷◌, ◌++◌, map, string_bytes, if_ok_then, led, comparison_kinds, update_kinds, plain_comparison, plain_update, Prints}
+use Rattle.ta_syntax.proofs.PrintSteps.{prints_then, led_of}
 use Rattle.ta_syntax.specs.declared.tokens.Kind.TheVariants as kind
 use Rattle.ta_syntax.specs.declared.tokens.Mark.TheVariants as mark
-use Rattle.ta_syntax.proofs.PrintSteps.{prints_then, led_of}
 use Rattle.ta_syntax.proofs.printing.TreeRulePrinted.print.Goals as goal
 
 pub returns : goal.returns

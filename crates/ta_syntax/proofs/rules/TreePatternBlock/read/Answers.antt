@@ -1,9 +1,7 @@
-use Rattle.ta_syntax.proofs.Common.{err_is}
-use Rattle.ta_base.specs.declared.limits.Limits.{Limits}
-use Rattle.ta_syntax.specs.FileGrammar as grammar
-use Rattle.ta_syntax.specs.Productions.{Production, both}
-use Rattle.ta_syntax.specs.declared.tokens.Mark.TheVariants as mark
+use Rattle.ta_syntax.proofs.Common.{err_is, Limits, Production, both}
 use Rattle.ta_syntax.proofs.Steps.{then, past, take_mark, mark_stops, halts_by, halts_in, stops_first}
+use Rattle.ta_syntax.specs.FileGrammar as grammar
+use Rattle.ta_syntax.specs.declared.tokens.Mark.TheVariants as mark
 use Rattle.ta_syntax.proofs.rules.TreePatternBlock.read.Goals as goal
 
 abbrev rest_4 : Production

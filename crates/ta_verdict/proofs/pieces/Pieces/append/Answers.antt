@@ -1,5 +1,5 @@
+use Rattle.ta_verdict.proofs.Common.{string_bytes}
 use Rattle.ta_base.proofs.Lists.{concat_added}
-use Rattle.std.proofs.Common.{string_bytes}
 use Rattle.ta_verdict.proofs.pieces.Pieces.append.Goals as goal
 
 pub returns : goal.returns

@@ -1,5 +1,5 @@
+use Rattle.ta_verdict.proofs.Common.{◌∙◌, [], ◌∷◌, ◌++◌, ap, string_bytes}
 use Rattle.ta_base.proofs.Lists.{concat_ended, concat_begun}
-use Rattle.std.proofs.Common.{◌∙◌, [], ◌∷◌, ◌++◌, ap, string_bytes}
 use Rattle.ta_verdict.proofs.pieces.Pieces.close.Goals as goal
 
 pub returns-clause-closed : goal.returns-clause-closed

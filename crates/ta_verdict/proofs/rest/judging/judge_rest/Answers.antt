@@ -1,5 +1,5 @@
+use Rattle.ta_verdict.proofs.Common.{QuietRestCertificate}
 use Rattle.ta_verdict.proofs.rest.Common.{◌∙◌, [], Begun, None, subst, sym, List, ℕ, RestCertificateOf, resting, safe_among}
-use Rattle.ta_check.specs.Certificate.{QuietRestCertificate}
 use Rattle.ta_verdict.proofs.rest.judging.judge_rest.Goals as goal
 
 -- in memory it doesn't matter where it was begun

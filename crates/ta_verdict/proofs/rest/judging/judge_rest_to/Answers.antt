@@ -1,8 +1,8 @@
 use Rattle.ta_verdict.proofs.rest.Common.{◌++◌, [], List, append-nil, refl, subst, sym, proofs_text, Verdict, AreTreesOf, safe_picked, ended_line, rest_head}
 use Rattle.ta_verdict.proofs.rest.Common.{rest_tree, resting}
-use Rattle.ta_cert.specs.declared.line.Line.TheVariants as line
 use Rattle.ta_verdict.proofs.JudgedSoFar.{err_any}
 use Rattle.ta_verdict.proofs.rest.CertificatesMade.{rest_accepted, rest_made}
+use Rattle.ta_cert.specs.declared.line.Line.TheVariants as line
 use Rattle.ta_verdict.proofs.rest.judging.judge_rest_to.Goals as goal
 
 pub returns-clause-certificate : goal.returns-clause-certificate

@@ -1,8 +1,8 @@
 use Rattle.ta_verdict.proofs.rest.Common.{◌∙◌, sym, adds_tree, resting, wanted_same, rest_tree}
 use Rattle.ta_verdict.proofs.rest.Drafting.{DraftedAtRest, moments_drafted, words_drafted}
 use Rattle.ta_verdict.proofs.rest.judging.next_verdict.Given.{Over}
-use Rattle.ta_verdict.proofs.rest.judging.next_verdict.Goals as goal
 use Rattle.ta_verdict.proofs.rest.judging.next_verdict.Goals.{After-is_safe, then-budget+in_ok-verdict, else-budget+in_ok-verdict-2}
+use Rattle.ta_verdict.proofs.rest.judging.next_verdict.Goals as goal
 
 -- what the verdict by either tree says
 said : (g : Over) (c : After-is_safe g) → DraftedAtRest c.args.rest.now (resting c.args.budget c.args.silent.now) c.args.pattern c.if-budget.verdict

@@ -1,8 +1,7 @@
+use Rattle.ta_verdict.proofs.Common.{search_of_claim, visit_of}
 use Rattle.ta_verdict.proofs.rest.Common.{OwnVerdict, words_within, rest_question, rest_search, overflow_holds, said_of}
-use Rattle.ta_rest.specs.Trees.{search_of_claim}
-use Rattle.ta_walk.proofs.ClaimsVisited.{visit_of}
-use Rattle.ta_walk.specs.declared.end.VisitEnd.TheVariants as visit
 use Rattle.ta_verdict.proofs.rest.VerdictsTold.{nothing_kept, safe_verdict, solution_found, spent_verdict}
+use Rattle.ta_walk.specs.declared.end.VisitEnd.TheVariants as visit
 use Rattle.ta_verdict.proofs.rest.verdict.rest_verdict.Goals as goal
 
 pub verdict_of-requires-clause-solution : goal.verdict_of-requires-clause-solution

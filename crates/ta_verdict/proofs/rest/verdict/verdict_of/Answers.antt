@@ -1,5 +1,5 @@
+use Rattle.ta_verdict.proofs.Common.{IfOk-weaker}
 use Rattle.ta_verdict.proofs.rest.Common.{subst, sym, rest_question, IsNotSafe, OwnVerdict, words_within, rules, VerdictFits, WitnessFaultOf, run_leaves}
-use Rattle.std.proofs.lemmas.Result.{IfOk-weaker}
 use Rattle.ta_verdict.proofs.rest.verdict.verdict_of.Goals as goal
 
 pub returns-in-Err-clause-holds : goal.returns-in-Err-clause-holds

@@ -1,6 +1,5 @@
-use Rattle.ta_verdict.proofs.Common.{◌∙◌, ◌++◌, List, ℕ, ap, concat, subst}
+use Rattle.ta_verdict.proofs.Common.{◌∙◌, ◌++◌, List, ℕ, ap, concat, subst, StagedOr}
 use Rattle.ta_shelf.proofs.StagedMore.{in_part}
-use Rattle.ta_shelf.specs.Staging.{StagedOr}
 use Rattle.ta_verdict.proofs.JudgedSoFar.{err_any}
 use Rattle.ta_verdict.proofs.TargetsMade.{adds_or, stops_or}
 use Rattle.ta_verdict.proofs.target.StagedFileStageTarget.add.Goals as goal

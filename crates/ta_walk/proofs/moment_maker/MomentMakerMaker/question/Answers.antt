@@ -1,6 +1,4 @@
-use Rattle.ta_encode.specs.Cursors.{node_at}
-use Rattle.ta_moment_tree.specs.Makers.{moment_maker}
-use Rattle.ta_moment_tree.specs.Trees.{asking_of}
+use Rattle.ta_walk.proofs.Common.{node_at, moment_maker, asking_of}
 use Rattle.ta_walk.proofs.FewMoments.{few_values}
 use Rattle.ta_walk.proofs.moment_maker.MomentMakerMaker.question.Goals as goal
 

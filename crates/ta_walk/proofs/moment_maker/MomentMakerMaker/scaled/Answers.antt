@@ -1,12 +1,6 @@
-use Rattle.std.proofs.Common.{◌≡◌, ◌∙◌, ℕ, ◌≤◌, ◌^◌, reverse, ap, sym, subst}
-use Rattle.std.specs.Prelude.{option_copied}
+use Rattle.ta_walk.proofs.Common.{◌≡◌, ◌∙◌, ℕ, ◌≤◌, ◌^◌, reverse, ap, sym, subst, option_copied, node_at, candidate_of, MomentEncoding, NodeIs, moment_maker}
+use Rattle.ta_walk.proofs.Common.{asking_of}
 use Rattle.std.proofs.lemmas.Option.{same_Some}
-use Rattle.ta_encode.specs.Cursors.{node_at}
-use Rattle.ta_moments.specs.Searched.{candidate_of}
-use Rattle.ta_moment_tree.specs.declared.encoding.MomentEncoding.{MomentEncoding}
-use Rattle.ta_moment_tree.specs.Kept.{NodeIs}
-use Rattle.ta_moment_tree.specs.Makers.{moment_maker}
-use Rattle.ta_moment_tree.specs.Trees.{asking_of}
 use Rattle.ta_walk.proofs.FewMoments.{few_moments, few_values}
 use Rattle.ta_walk.proofs.NodesKnown.{moments_count}
 use Rattle.ta_walk.proofs.moment_maker.MomentMakerMaker.scaled.Goals as goal
